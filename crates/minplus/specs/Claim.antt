@@ -1,0 +1,63 @@
+-- The kinds of claim, what each says of its curves, and at which ticks.
+--
+-- Document 01, 'Claims': "f is the left curve, g the right one, h the claimed one. The same curve may stand in two or three
+-- places", and the table of kinds 1 to 7.
+--
+--     Operation, due       kinds 1 to 3: the value that h has to have at a tick
+--     Deviation, allowed   kinds 4 to 7: the value that f may have at a tick
+--     Bound                f stays within what is allowed, at every tick
+--     Kind, kindNumber     the seven kinds and their numbers
+--     Claim, Claimed       a claim over its curves, and what it says: the table's right column
+use Prim.Native.Nat.{ℕ, _+_, _-_, _≤_, _<_, min}
+use mathlib.Core.Path.{_≡_}
+use Rattle.minplus.specs.Curve.{Curve, value}
+use Rattle.minplus.specs.Conv.{conv}
+
+pub data Operation : Type 0 where
+  sum minimum convolution : Operation
+
+pub data Deviation : Type 0 where
+  delay backlog : Deviation
+
+-- a bound, or the least bound
+pub data Tightness : Type 0 where
+  atMost exactly : Tightness
+
+unfoldable pub due : Operation → (ℕ → ℕ) → (ℕ → ℕ) → ℕ → ℕ
+unfolding conv
+due sum f g n = f n + g n
+due minimum f g n = min (f n) (g n)
+due convolution f g n = conv f g n
+
+unfoldable pub allowed : Deviation → (ℕ → ℕ) → ℕ → ℕ → ℕ
+allowed delay g X s = g (s + X)
+allowed backlog g X s = g s + X
+
+abbrev pub Bound : Deviation → (ℕ → ℕ) → (ℕ → ℕ) → ℕ → Type 0
+Bound δ f g X = (s : ℕ) → f s ≤ allowed δ g X s
+
+pub data Kind : Type 0 where
+  result : Operation → Kind
+  bound : Deviation → Tightness → Kind
+
+unfoldable pub kindNumber : Kind → ℕ
+kindNumber (result sum) = 1
+kindNumber (result minimum) = 2
+kindNumber (result convolution) = 3
+kindNumber (bound delay atMost) = 4
+kindNumber (bound delay exactly) = 5
+kindNumber (bound backlog atMost) = 6
+kindNumber (bound backlog exactly) = 7
+
+pub data Claim : Type 0 where
+  equals : Operation → (f g h : Curve) → Claim
+  bounds : Deviation → Tightness → (f g : Curve) (X : ℕ) → Claim
+
+unfoldable pub kindOf : Claim → Kind
+kindOf (equals op f g h) = result op
+kindOf (bounds δ t f g X) = bound δ t
+
+abbrev pub Claimed : Claim → Type 0
+Claimed (equals op f g h) = (n : ℕ) → value h n ≡ due op (value f) (value g) n
+Claimed (bounds δ atMost f g X) = Bound δ (value f) (value g) X
+Claimed (bounds δ exactly f g X) = Bound δ (value f) (value g) X × (0 < X → ¬ (Bound δ (value f) (value g) (X - 1)))

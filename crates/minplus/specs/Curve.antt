@@ -1,0 +1,111 @@
+-- A curve, when it is well formed, and its value at any tick.
+--
+-- Document 01, 'Curves': "A curve has a rank T, period d, increment c and listed values f(0) to f(T+d-1). For n >= T,
+-- f(n+d) = f(n)+c. Limits: d >= 1, T+d <= 256, c and each listed value <= 1,000,000. Curves never fall: no listed value is
+-- below the one before it."
+--
+--     Curve           rank T, period d, increment c, listed values
+--     WellFormed f    every limit of that paragraph; wellFormed f is the same as a test that computes (well-formed)
+--     value f n       f(n), at any tick n
+--     value-listed    below T + d it is the listed value
+--     value-gains     from T on it gains c over d
+--     value-only      and nothing else has both: the two sentences above leave one function
+use Prim.Native.Nat.{ℕ, suc, _+_, _-_, _*_, _/_, _%_, _≤_, _<_, min}
+use mathlib.Core.Path.{_≡_, sym, ap, _∙_}
+use mathlib.Core.Bool.{Bool, true, _&&_}
+use mathlib.Core.List.{List}
+use native.Mathlib.Omega.{arith}
+use native.Mathlib.Nat.{mod-eq-of-lt, div-eq-of-lt, add-mod-right, add-div-right, add-mul}
+use lib.ListN.{length, getD}
+use lib.Dec.{leb, eqb}
+use borrow.Author.Tests.{leb-true, eqb-true}
+use Rattle.minplus.specs.Gains.{Gains, every-period}
+use Rattle.minplus.specs.Search.{allBelow, all-below, both-true}
+
+pub record Curve : Type 0 where
+  pub rank : ℕ
+  pub period : ℕ
+  pub increment : ℕ
+  pub listed : List ℕ
+
+-- the limits: how many values a curve lists, and how many units a value or an increment is
+abbrev pub maxListed : ℕ
+maxListed = 256
+
+abbrev pub maxUnits : ℕ
+maxUnits = 1_000_000
+
+-- T + d: how many values f lists
+abbrev pub count : Curve → ℕ
+count f = f .rank + f .period
+
+abbrev pub listedAt : Curve → ℕ → ℕ
+listedAt f n = getD (f .listed) n 0
+
+pub record WellFormed (f : Curve) : Type 0 where
+  pub period-positive : 1 ≤ f .period
+  pub count-fits : count f ≤ maxListed
+  pub listed-whole : length (f .listed) ≡ count f
+  pub increment-fits : f .increment ≤ maxUnits
+  pub values-fit : (n : ℕ) → n < count f → listedAt f n ≤ maxUnits
+  pub never-falls : (n : ℕ) → n < count f - 1 → listedAt f n ≤ listedAt f (suc n)
+
+-- f(n): the tick's place in the list, and the increments of the whole periods since the rank. Below the rank the truncated
+-- difference is 0, and so are its quotient and its remainder
+unfoldable pub value : Curve → ℕ → ℕ
+value f n = listedAt f (min n (f .rank) + (n - f .rank) % f .period) + (n - f .rank) / f .period * f .increment
+
+pub value-listed : (f : Curve) → 1 ≤ f .period → (n : ℕ) → n < count f → value f n ≡ listedAt f n
+unfolding value
+value-listed f positive n lt =
+    let inside : n - f .rank < f .period = omega arith in
+    let at : min n (f .rank) + (n - f .rank) % f .period ≡ n = omega (arith, mod-eq-of-lt inside) in
+    let none-yet : (n - f .rank) / f .period * f .increment ≡ 0 = ap (λ (q : ℕ). q * f .increment) (div-eq-of-lt inside) ∙ omega arith in
+    ap (λ (x : ℕ). x + (n - f .rank) / f .period * f .increment) (ap (listedAt f) at) ∙ omega (arith, none-yet)
+
+pub value-gains : (f : Curve) → 1 ≤ f .period → Gains (value f) (f .rank) (f .period) (f .increment)
+unfolding value
+value-gains f positive = record {
+  gain = λ n le.
+      let since : n + f .period - f .rank ≡ n - f .rank + f .period = omega arith in
+      let at : min (n + f .period) (f .rank) + (n + f .period - f .rank) % f .period ≡ min n (f .rank) + (n - f .rank) % f .period =
+      ap (λ (x : ℕ). min (n + f .period) (f .rank) + x % f .period) since ∙ omega (arith, add-mod-right (n - f .rank) (f .period)) in
+      let more : (n + f .period - f .rank) / f .period ≡ (n - f .rank) / f .period + 1 =
+      ap (λ (x : ℕ). x / f .period) since ∙ add-div-right (n - f .rank) positive in
+      ap (λ (x : ℕ). listedAt f x + (n + f .period - f .rank) / f .period * f .increment) at
+      ∙ ap (λ (q : ℕ). listedAt f (min n (f .rank) + (n - f .rank) % f .period) + q * f .increment) more
+      ∙ omega arith;
+}
+
+pub value-only : (f : Curve) → 1 ≤ f .period → (F : ℕ → ℕ) → ((n : ℕ) → n < count f → F n ≡ listedAt f n)
+    → Gains F (f .rank) (f .period) (f .increment) → (n : ℕ) → F n ≡ value f n
+value-only f positive F listed gains =
+    every-period (λ n. F n ≡ value f n) (f .rank) (f .period) positive (λ n lt. listed n lt ∙ sym (value-listed f positive n lt))
+    (λ n le e. gains .gain n le ∙ ap (λ (x : ℕ). x + f .increment) e ∙ sym (value-gains f positive .gain n le))
+
+unfoldable pub wellFormed : Curve → Bool
+unfolding allBelow
+wellFormed f =
+    leb 1 (f .period)
+    && leb (count f) maxListed
+    && eqb (length (f .listed)) (count f)
+    && leb (f .increment) maxUnits
+    && allBelow (λ n. leb (listedAt f n) maxUnits) (count f)
+    && allBelow (λ n. leb (listedAt f n) (listedAt f (suc n))) (count f - 1)
+
+pub well-formed : (f : Curve) → wellFormed f ≡ true → WellFormed f
+unfolding wellFormed
+well-formed f e =
+    let rises = both-true _ (allBelow (λ n. leb (listedAt f n) (listedAt f (suc n))) (count f - 1)) e in
+    let fit = both-true _ (allBelow (λ n. leb (listedAt f n) maxUnits) (count f)) (rises .0) in
+    let increment = both-true _ (leb (f .increment) maxUnits) (fit .0) in
+    let whole = both-true _ (eqb (length (f .listed)) (count f)) (increment .0) in
+    let counts = both-true (leb 1 (f .period)) (leb (count f) maxListed) (whole .0) in
+    record {
+      period-positive = leb-true 1 (f .period) (counts .0);
+      count-fits = leb-true (count f) maxListed (counts .1);
+      listed-whole = eqb-true (length (f .listed)) (count f) (whole .1);
+      increment-fits = leb-true (f .increment) maxUnits (increment .1);
+      values-fit = λ n lt. leb-true (listedAt f n) maxUnits (all-below (λ m. leb (listedAt f m) maxUnits) (count f) (fit .1) n lt);
+      never-falls = λ n lt. leb-true (listedAt f n) (listedAt f (suc n)) (all-below (λ m. leb (listedAt f m) (listedAt f (suc m))) (count f - 1) (rises .1) n lt);
+    }

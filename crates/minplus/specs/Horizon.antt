@@ -1,0 +1,126 @@
+-- How far a claim has to be looked at: the rank R of a result, the crossing N, and the horizon.
+--
+-- Document 01, 'The horizon', sentence by sentence. T, d, c are the left curve's rank, period and increment; T', d', c' the
+-- right one's. Its N is a whole-number formula with differences that may be below 0: here such a difference is kept as a
+-- pair of natural numbers, plus less minus, and truncated subtraction is the formula's "larger of 0".
+--
+--     period² f g       D, the least common multiple of d and d'
+--     Signed            plus less minus
+--     extremeOf         the greatest or the least d*f(t) - c*t over some ticks t; A and B are such
+--     roundedUp x y     x/y rounded up
+--     crossing          N from A and B
+--     minimumN, convolutionN     N where f is the slower one; Crossing.antt pins both without shifts
+--     rankOf            R
+--     horizon           of a claim; maxHorizon, the limit above which nothing is judged
+use Prim.Native.Nat.{ℕ, zero, suc, _+_, _-_, _*_, _/_, _≤_, _<_, min, max}
+use mathlib.Core.Path.{_≡_}
+use mathlib.Core.Bool.{Bool, true, false}
+use lib.Dec.{ltb}
+use Rattle.minplus.specs.Search.{best, least, greatest}
+use Rattle.minplus.specs.Curve.{Curve, value}
+use Rattle.minplus.specs.Divisor.{lcm}
+use Rattle.minplus.specs.Claim.{Operation, sum, minimum, convolution, Claim, equals, bounds}
+
+-- "D is the least common multiple of the periods d of f and d' of g"
+unfoldable pub commonPeriod : Curve → Curve → ℕ
+unfolding lcm
+commonPeriod f g = lcm (f .period) (g .period)
+
+-- "c*d' < c'*d": f is slower than g, compared by cross products
+abbrev pub slower : Curve → Curve → Bool
+slower f g = ltb (f .increment * g .period) (g .increment * f .period)
+
+-- "equal rates", "f slower", "if g is slower, swap the two"
+unfoldable pub byRates : Curve → Curve → ℕ → (Curve → Curve → ℕ) → ℕ
+byRates f g equal fSlower = elim (slower f g) [ true ↦ fSlower f g | false ↦ elim (slower g f) [ true ↦ fSlower g f | false ↦ equal ] ]
+
+-- a whole number that may be below 0: plus less minus
+pub record Signed : Type 0 where
+  pub plus : ℕ
+  pub minus : ℕ
+
+infixl 60 _increasedBy_
+abbrev pub _increasedBy_ : Signed → Signed → Signed
+a increasedBy b = record { plus = a .plus + b .plus; minus = a .minus + b .minus }
+
+-- the least or the greatest d*f(t) - c*t over start <= t < start + count, where count > 0. Each is raised by c*(start + count),
+-- so that none is below 0, and so is what is subtracted from it
+unfoldable pub extremeOf : (ℕ → ℕ → ℕ) → (ℕ → ℕ) → ℕ → ℕ → ℕ → ℕ → Signed
+unfolding best
+extremeOf choose f d c start count = record {
+  plus = best choose (λ i. d * f (start + i) + c * (count - i)) (count - 1);
+  minus = c * (start + count);
+}
+
+-- "A is the greatest d*f(t) - c*t over T <= t < T+d"
+unfoldable pub highest : Curve → Signed
+unfolding extremeOf value
+highest f = extremeOf max (value f) (f .period) (f .increment) (f .rank) (f .period)
+
+-- "B is the least d'*g(t) - c'*t over T' <= t < T'+d'"
+unfoldable pub lowest : Curve → Signed
+unfolding extremeOf value
+lowest g = extremeOf min (value g) (g .period) (g .increment) (g .rank) (g .period)
+
+-- "the least d'*f(t) - c'*t over 0 <= t < T"
+unfoldable pub earliest : Curve → Curve → Signed
+unfolding extremeOf value
+earliest f g = extremeOf min (value f) (g .period) (g .increment) 0 (f .rank)
+
+unfoldable pub roundedUp : ℕ → ℕ → ℕ
+roundedUp x y = (x + (y - 1)) / y
+
+-- "the larger of 0 and (d'*A - d*B)/(c'*d - c*d') rounded up"
+unfoldable pub crossing : Curve → Curve → Signed → Signed → ℕ
+unfolding roundedUp
+crossing f g A B =
+    roundedUp (g .period * A .plus + f .period * B .minus - (f .period * B .plus + g .period * A .minus))
+    (g .increment * f .period - f .increment * g .period)
+
+unfoldable pub minimumN : Curve → Curve → ℕ
+unfolding crossing highest lowest
+minimumN f g = crossing f g (highest f) (lowest g)
+
+-- "N as above but with A increased by d*g(T') - c*T', and B increased by the least d'*f(t) - c'*t over 0 <= t < T.
+-- If T = 0 that last list is empty and N is 0."
+unfoldable pub convolutionN : Curve → Curve → ℕ
+unfolding crossing highest lowest earliest value
+convolutionN f g = elim (f .rank) [
+  | zero ↦ 0
+  | suc _ ↦ crossing f g
+      (highest f increasedBy record { plus = f .period * value g (g .rank); minus = f .increment * g .rank })
+      (lowest g increasedBy earliest f g)
+]
+
+-- R: "Minimum, f slower: R = max(T,T',N)" and "Convolution, f slower: R = max(T+T'+D, N)"
+abbrev pub slowMinimum : Curve → Curve → ℕ
+slowMinimum f g = max (max (f .rank) (g .rank)) (minimumN f g)
+
+abbrev pub slowConvolution : Curve → Curve → ℕ
+slowConvolution f g = max (f .rank + g .rank + commonPeriod f g) (convolutionN f g)
+
+-- "Sum: R = max(T,T')", and with equal rates "R = max(T,T')" for a minimum and "R = T+T'+D" for a convolution
+unfoldable pub rankOf : Operation → Curve → Curve → ℕ
+unfolding byRates minimumN convolutionN commonPeriod
+rankOf sum f g = max (f .rank) (g .rank)
+rankOf minimum f g = byRates f g (max (f .rank) (g .rank)) slowMinimum
+rankOf convolution f g = byRates f g (f .rank + g .rank + commonPeriod f g) slowConvolution
+
+-- "K the greater of R and h's rank, P the least common multiple of D and h's period. The horizon is K+P"
+unfoldable pub lastRank : Operation → Curve → Curve → Curve → ℕ
+unfolding rankOf
+lastRank op f g h = max (rankOf op f g) (h .rank)
+
+unfoldable pub fullPeriod : Curve → Curve → Curve → ℕ
+unfolding lcm commonPeriod
+fullPeriod f g h = lcm (commonPeriod f g) (h .period)
+
+-- "Kinds 4 to 7: the horizon is max(T,T')+D."
+unfoldable pub horizon : Claim → ℕ
+unfolding lastRank fullPeriod commonPeriod
+horizon (equals op f g h) = lastRank op f g h + fullPeriod f g h
+horizon (bounds δ t f g X) = max (f .rank) (g .rank) + commonPeriod f g
+
+-- "A horizon above 4,096 gives "not judged"."
+abbrev pub maxHorizon : ℕ
+maxHorizon = 4_096

@@ -1,0 +1,13 @@
+pub mod Curve
+pub mod Conv
+pub mod Claim
+pub mod Divisor
+pub mod Horizon
+pub mod Verdict
+pub mod Meaning
+pub mod Gains
+pub mod Search
+pub mod Crossing
+pub mod Ranks
+pub mod Exact
+pub mod Ground

@@ -1,0 +1,122 @@
+-- Searches over the ticks from 0 on: the least and the greatest of finitely many numbers, and the first tick at which a
+-- test passes. Each recurses at its end, as a loop that counts up does. What is used of them is their laws.
+--
+--     best choose h k   what choose keeps of h(0) to h(k), taken in order: never of an empty list
+--     least h k         the least of h(0) to h(k): a lower bound of them (least-lower) that is one of them (least-attained)
+--     greatest h k      the greatest of them, likewise (greatest-upper, greatest-attained)
+--     firstBelow p k    the first n < k with p(n), if there is one; IsFirst says so (first-below)
+--     allBelow p k      p(n) for every n < k (all-below)
+use Prim.Native.Nat.{ℕ, zero, suc, _≤_, _<_, min, max}
+use mathlib.Core.Path.{_≡_, refl, sym, ap, _∙_, subst}
+use mathlib.Core.Bool.{Bool, true, false, _&&_, false≢true, true≢false}
+use mathlib.Core.Logic.{_⊎_, inl, inr}
+use mathlib.Core.Option.{Option, none, some}
+use native.Mathlib.Omega.{arith}
+use native.Mathlib.Nat.{eq-or-lt-of-le, le-of-suc-le-suc, le-refl, le-trans, min-le-left, min-le-right, le-max-left, le-max-right, min-eq-left, min-eq-right, max-eq-left, max-eq-right, le-of-lt, lt-of-not-le, le-antisymm}
+use native.Mathlib.Decide.{decLe}
+
+le-of-not-lt : (m n : ℕ) → ¬ (n < m) → m ≤ n
+le-of-not-lt m n h = omega (arith, h)
+
+-- what holds below k and at k holds below k + 1
+below-suc : {S : ℕ → Type 0} {k : ℕ} → ((n : ℕ) → n < k → S n) → S k → (n : ℕ) → n < suc k → S n
+below-suc {S} {k} all here n lt = go (eq-or-lt-of-le (le-of-suc-le-suc lt))
+  where
+    go : (n ≡ k) ⊎ (n < k) → S n
+    go (inl e) = subst S (sym e) here
+    go (inr less) = all n less
+
+unfoldable pub best : (ℕ → ℕ → ℕ) → (ℕ → ℕ) → ℕ → ℕ
+best choose h zero = h zero
+best choose h (suc k) = choose (best choose h k) (h (suc k))
+
+module _ (choose : ℕ → ℕ → ℕ) (R : ℕ → ℕ → Type 0) (here : (a : ℕ) → R a a)
+    (earlier : (a b x : ℕ) → R a x → R (choose a b) x) (later : (a b : ℕ) → R (choose a b) b) where
+  best-bounds : (h : ℕ → ℕ) (k n : ℕ) → n < suc k → R (best choose h k) (h n)
+  unfolding best
+  best-bounds h zero n lt = let e : n ≡ zero = omega arith in subst (λ (m : ℕ). R (h zero) (h m)) (sym e) (here (h zero))
+  best-bounds h (suc k) n lt =
+      below-suc {S = λ m. R (choose (best choose h k) (h (suc k))) (h m)}
+      (λ m l. earlier (best choose h k) (h (suc k)) (h m) (best-bounds h k m l))
+      (later (best choose h k) (h (suc k))) n lt
+
+module _ (choose : ℕ → ℕ → ℕ) (either : (a b : ℕ) → (choose a b ≡ a) ⊎ (choose a b ≡ b)) where
+  best-attained : (h : ℕ → ℕ) (k : ℕ) → (n : ℕ) × (n ≤ k) × (best choose h k ≡ h n)
+  unfolding best
+  best-attained h zero = (zero, omega arith, refl)
+  best-attained h (suc k) = go (best-attained h k) (either (best choose h k) (h (suc k)))
+    where
+      go : (n : ℕ) × (n ≤ k) × (best choose h k ≡ h n) → (choose (best choose h k) (h (suc k)) ≡ best choose h k) ⊎ (choose (best choose h k) (h (suc k)) ≡ h (suc k))
+          → (n : ℕ) × (n ≤ suc k) × (choose (best choose h k) (h (suc k)) ≡ h n)
+      go t (inl e) = (t .0, omega (arith, t .1), e ∙ t .2)
+      go t (inr e) = (suc k, omega arith, e)
+
+abbrev pub least : (ℕ → ℕ) → ℕ → ℕ
+least h k = best min h k
+
+abbrev pub greatest : (ℕ → ℕ) → ℕ → ℕ
+greatest h k = best max h k
+
+pub least-lower : (h : ℕ → ℕ) (k n : ℕ) → n ≤ k → least h k ≤ h n
+least-lower h k n le = best-bounds min (λ a b. a ≤ b) le-refl (λ a b x le. omega arith) min-le-right h k n (omega arith)
+
+pub greatest-upper : (h : ℕ → ℕ) (k n : ℕ) → n ≤ k → h n ≤ greatest h k
+greatest-upper h k n le = best-bounds max (λ a b. b ≤ a) le-refl (λ a b x le. omega arith) le-max-right h k n (omega arith)
+
+pub least-attained : (h : ℕ → ℕ) (k : ℕ) → (n : ℕ) × (n ≤ k) × (least h k ≡ h n)
+least-attained h k = best-attained min (λ a b. elim (decLe a b) [ yes le ↦ inl (min-eq-left le) | no gt ↦ inr (min-eq-right (le-of-lt (lt-of-not-le gt))) ]) h k
+
+pub greatest-attained : (h : ℕ → ℕ) (k : ℕ) → (n : ℕ) × (n ≤ k) × (greatest h k ≡ h n)
+greatest-attained h k = best-attained max (λ a b. elim (decLe b a) [ yes le ↦ inl (max-eq-left le) | no gt ↦ inr (max-eq-right (le-of-lt (lt-of-not-le gt))) ]) h k
+
+-- p, tried at 0, 1, 2 and so on up to k - 1
+unfoldable pub firstBelow : (ℕ → Bool) → ℕ → Option ℕ
+firstBelow p zero = none
+firstBelow p (suc k) = elim (firstBelow p k) [ some n ↦ some n | none ↦ elim (p k) [ true ↦ some k | false ↦ none ] ]
+
+pub data IsFirst (p : ℕ → Bool) (k : ℕ) : Option ℕ → Type 0 where
+  nowhere : ((n : ℕ) → n < k → p n ≡ false) → IsFirst p k none
+  somewhere : (n : ℕ) → n < k → p n ≡ true → ((m : ℕ) → m < n → p m ≡ false) → IsFirst p k (some n)
+
+pub first-below : (p : ℕ → Bool) (k : ℕ) → IsFirst p k (firstBelow p k)
+unfolding firstBelow
+first-below p zero = nowhere (λ n lt. absurd (omega (arith, lt)))
+first-below p (suc k) = go (firstBelow p k) (first-below p k) (p k) refl
+  where
+    go : (o : Option ℕ) → IsFirst p k o → (b : Bool) → p k ≡ b
+        → IsFirst p (suc k) (elim o [ some n ↦ some n | none ↦ elim b [ true ↦ some k | false ↦ none ] ])
+    go (some _) (somewhere n lt e before) b q = somewhere n (omega arith) e before
+    go none (nowhere all) true q = somewhere k (omega arith) q all
+    go none (nowhere all) false q = nowhere (below-suc {S = λ n. p n ≡ false} all q)
+
+-- the search's answer from what it would find
+pub first-nowhere : (p : ℕ → Bool) (k : ℕ) → ((n : ℕ) → n < k → p n ≡ false) → firstBelow p k ≡ none
+first-nowhere p k all = go (firstBelow p k) (first-below p k)
+  where
+    go : (o : Option ℕ) → IsFirst p k o → o ≡ none
+    go none (nowhere _) = refl
+    go (some _) (somewhere n lt e before) = absurd (true≢false (sym e ∙ all n lt))
+
+pub first-at : (p : ℕ → Bool) (k n : ℕ) → n < k → p n ≡ true → ((m : ℕ) → m < n → p m ≡ false) → firstBelow p k ≡ some n
+first-at p k n lt here before = go (firstBelow p k) (first-below p k)
+  where
+    go : (o : Option ℕ) → IsFirst p k o → o ≡ some n
+    go none (nowhere all) = absurd (true≢false (sym here ∙ all n lt))
+    go (some _) (somewhere m lt′ here′ before′) = ap some (le-antisymm
+        (le-of-not-lt m n (λ less. true≢false (sym here ∙ before′ n less)))
+        (le-of-not-lt n m (λ less. true≢false (sym here′ ∙ before m less))))
+
+unfoldable pub allBelow : (ℕ → Bool) → ℕ → Bool
+allBelow p zero = true
+allBelow p (suc k) = allBelow p k && p k
+
+pub both-true : (a b : Bool) → a && b ≡ true → (a ≡ true) × (b ≡ true)
+both-true true b e = (refl, e)
+both-true false b e = absurd (false≢true e)
+
+pub all-below : (p : ℕ → Bool) (k : ℕ) → allBelow p k ≡ true → (n : ℕ) → n < k → p n ≡ true
+unfolding allBelow
+all-below p zero e n lt = absurd (omega (arith, lt))
+all-below p (suc k) e n lt =
+    let t = both-true (allBelow p k) (p k) e in
+    below-suc {S = λ m. p m ≡ true} (all-below p k (t .0)) (t .1) n lt

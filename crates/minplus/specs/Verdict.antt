@@ -1,0 +1,96 @@
+-- The verdict on a claim, computed by document 01's finite rule, and the numbers of its record.
+--
+-- Document 01, 'Verdicts'. Nothing here speaks of ticks beyond the horizon: Exact.antt shows what a verdict says of them.
+--
+--     Verdict, recordOf     the five verdicts; the code and the tick, left and right value of each
+--     leftAt, rightAt       the two values that the record of a refuted tick holds
+--     breaks, tried         whether a tick breaks the rule; how many ticks, from 0 on, are tried
+--     byRate, lessHolds     the tests of codes 3 and 4
+--     inOrder, verdict      the codes in their order
+use Prim.Native.Nat.{ℕ, suc, _-_}
+use mathlib.Core.Bool.{Bool, true, false, not}
+use mathlib.Core.Option.{Option, none, some}
+use lib.Dec.{ltb, eqb}
+use Rattle.minplus.specs.Search.{firstBelow}
+use Rattle.minplus.specs.Curve.{value}
+use Rattle.minplus.specs.Claim.{Claim, equals, bounds, atMost, exactly, due, allowed}
+use Rattle.minplus.specs.Horizon.{slower, horizon, maxHorizon}
+
+pub data Verdict : Type 0 where
+  accepted : Verdict
+  refutedAt : (tick left right : ℕ) → Verdict
+  refutedByRate : Verdict
+  notLeast : Verdict
+  notJudged : Verdict
+
+-- "A record is 21 bytes: code, tick (4 bytes), left value (8), right value (8)": its four numbers
+pub record Record : Type 0 where
+  pub code : ℕ
+  pub tick : ℕ
+  pub left : ℕ
+  pub right : ℕ
+
+-- "For other codes the twenty bytes are 0."
+unfoldable pub recordOf : Verdict → Record
+recordOf accepted = record { code = 1; tick = 0; left = 0; right = 0 }
+recordOf (refutedAt tick left right) = record { code = 2; tick = tick; left = left; right = right }
+recordOf refutedByRate = record { code = 3; tick = 0; left = 0; right = 0 }
+recordOf notLeast = record { code = 4; tick = 0; left = 0; right = 0 }
+recordOf notJudged = record { code = 5; tick = 0; left = 0; right = 0 }
+
+-- "in kinds 1 to 3, left is the due value and right is h; in 4 and 5, f(s) and g(s+X); in 6 and 7, f(s) and g(s)+X"
+unfoldable pub leftAt : Claim → ℕ → ℕ
+unfolding due value
+leftAt (equals op f g h) n = due op (value f) (value g) n
+leftAt (bounds δ t f g X) s = value f s
+
+unfoldable pub rightAt : Claim → ℕ → ℕ
+unfolding allowed value
+rightAt (equals op f g h) n = value h n
+rightAt (bounds δ t f g X) s = allowed δ (value g) X s
+
+-- kinds 1 to 3: the values differ; kinds 4 to 7: f(s) is above the right value
+unfoldable pub breaks : Claim → ℕ → Bool
+unfolding leftAt rightAt
+breaks (equals op f g h) n = not (eqb (leftAt (equals op f g h) n) (rightAt (equals op f g h) n))
+breaks (bounds δ t f g X) s = ltb (rightAt (bounds δ t f g X) s) (leftAt (bounds δ t f g X) s)
+
+-- "ticks 0 to K+P are compared, the last one included"; "The ticks below it are tried"
+unfoldable pub tried : Claim → ℕ
+unfolding horizon
+tried (equals op f g h) = suc (horizon (equals op f g h))
+tried (bounds δ t f g X) = horizon (bounds δ t f g X)
+
+unfoldable pub firstBreak : Claim → Option ℕ
+unfolding firstBelow breaks tried
+firstBreak c = firstBelow (breaks c) (tried c)
+
+-- "kinds 4 to 7, c*d' > c'*d"
+unfoldable pub byRate : Claim → Bool
+byRate (equals op f g h) = false
+byRate (bounds δ t f g X) = slower g f
+
+-- "kinds 5 and 7, X > 0 and X-1 is also a bound": no tick breaks it. Code 3 comes first, so the rates need no second look
+unfoldable pub lessHolds : Claim → Bool
+unfolding firstBreak
+lessHolds (equals op f g h) = false
+lessHolds (bounds δ atMost f g X) = false
+lessHolds (bounds δ exactly f g X) =
+    elim (ltb 0 X) [ true ↦ elim (firstBreak (bounds δ exactly f g (X - 1))) [ none ↦ true | some _ ↦ false ] | false ↦ false ]
+
+-- "Tried in this order, a later one only if the earlier doesn't apply": too far, the first break, by rate, less holds too
+unfoldable pub inOrder : Claim → Bool → Option ℕ → Bool → Bool → Verdict
+unfolding leftAt rightAt
+inOrder c true o rate less = notJudged
+inOrder c false (some n) rate less = refutedAt n (leftAt c n) (rightAt c n)
+inOrder c false none true less = refutedByRate
+inOrder c false none false true = notLeast
+inOrder c false none false false = accepted
+
+-- each `let` is computed only where a code before it has not decided
+unfoldable pub verdict : Claim → Verdict
+unfolding inOrder horizon firstBreak byRate lessHolds
+verdict c =
+    let at = firstBreak c in
+    let less = lessHolds c in
+    inOrder c (ltb maxHorizon (horizon c)) at (byRate c) less
