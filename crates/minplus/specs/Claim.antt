@@ -6,11 +6,14 @@
 --     Operation, due       kinds 1 to 3: the value that h has to have at a tick
 --     Deviation, allowed   kinds 4 to 7: the value that f may have at a tick
 --     Bound                f stays within what is allowed, at every tick
+--     VerticalDeviation    the trade's definition of the backlog, which kind 7 claims (backlog-exact)
 --     Kind, kindNumber     the seven kinds and their numbers
---     Claim, Claimed       a claim over its curves, and what it says: the table's right column
+--     Claim, kindOf        a claim over its curves, and its kind
+--     WellFormedClaim      its curves are well formed and X is within its limit
+--     Claimed              what it says: the table's right column
 use Prim.Native.Nat.{ℕ, _+_, _-_, _≤_, _<_, min}
 use mathlib.Core.Path.{_≡_}
-use Rattle.minplus.specs.Curve.{Curve, value}
+use Rattle.minplus.specs.Curve.{Curve, WellFormed, value}
 use Rattle.minplus.specs.Conv.{conv}
 
 pub data Operation : Type 0 where
@@ -36,6 +39,10 @@ allowed backlog g X s = g s + X
 abbrev pub Bound : Deviation → (ℕ → ℕ) → (ℕ → ℕ) → ℕ → Type 0
 Bound δ f g X = (s : ℕ) → f s ≤ allowed δ g X s
 
+-- "The backlog is the trade's vertical deviation, the greatest f(s)-g(s)": X is that, where a difference below 0 counts as 0
+abbrev pub VerticalDeviation : (ℕ → ℕ) → (ℕ → ℕ) → ℕ → Type 0
+VerticalDeviation f g X = ((s : ℕ) → f s - g s ≤ X) × ((s : ℕ) × (f s - g s ≡ X))
+
 pub data Kind : Type 0 where
   result : Operation → Kind
   bound : Deviation → Tightness → Kind
@@ -53,10 +60,19 @@ pub data Claim : Type 0 where
   equals : Operation → (f g h : Curve) → Claim
   bounds : Deviation → Tightness → (f g : Curve) (X : ℕ) → Claim
 
+-- "X is at most 1,000,000,000."
+abbrev pub maxX : ℕ
+maxX = 1_000_000_000
+
+abbrev pub WellFormedClaim : Claim → Type 0
+WellFormedClaim (equals op f g h) = WellFormed f × WellFormed g × WellFormed h
+WellFormedClaim (bounds δ t f g X) = WellFormed f × WellFormed g × (X ≤ maxX)
+
 unfoldable pub kindOf : Claim → Kind
 kindOf (equals op f g h) = result op
 kindOf (bounds δ t f g X) = bound δ t
 
+-- what a claim says: the table's "Accepted when, at every tick n or s"
 abbrev pub Claimed : Claim → Type 0
 Claimed (equals op f g h) = (n : ℕ) → value h n ≡ due op (value f) (value g) n
 Claimed (bounds δ atMost f g X) = Bound δ (value f) (value g) X

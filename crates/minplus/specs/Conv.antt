@@ -9,7 +9,7 @@
 --     conv-above       so a number that no split is below is not above it
 --     conv-comm, conv-assoc
 use Prim.Native.Nat.{ℕ, _+_, _-_, _≤_}
-use mathlib.Core.Path.{_≡_, sym, ap, _∙_, subst}
+use mathlib.Core.Path.{_≡_, subst}
 use native.Mathlib.Omega.{arith}
 use native.Mathlib.Nat.{le-antisymm, add-sub-of-le, add-sub-cancel-left}
 use Rattle.minplus.specs.Search.{best, least, least-lower, least-attained}

@@ -1,5 +1,5 @@
 -- The crossing N, pinned without shifts: N <= n exactly when document 01's formula, multiplied out, holds at n for every t of
--- its two or three lists. A number is fixed by the numbers that it is not above, so no other N has this law.
+-- its two or three lists. No other number has this law (bounds-fix).
 --
 --     In start count      a tick t with start <= t < start + count
 --     Greatest, Least     a signed number is the greatest or the least p(i) - q(i) over all i: a bound of them that is one of them
@@ -10,7 +10,7 @@ use Prim.Native.Nat.{ℕ, zero, suc, _+_, _-_, _*_, _/_, _≤_, _<_, min, max}
 use mathlib.Core.Path.{_≡_, refl, sym, ap, _∙_, subst}
 use mathlib.Core.Logic.{_↔_}
 use native.Mathlib.Omega.{arith}
-use native.Mathlib.Nat.{sub-add-cancel, add-sub-of-le, div-lt-iff-lt-mul, mul-le-mul-left}
+use native.Mathlib.Nat.{sub-add-cancel, add-sub-of-le, div-lt-iff-lt-mul, mul-le-mul-left, le-antisymm, le-refl}
 use Rattle.minplus.specs.Search.{greatest, least, greatest-upper, least-lower, greatest-attained, least-attained}
 use Rattle.minplus.specs.Curve.{Curve, value}
 use Rattle.minplus.specs.Horizon.{Signed, extremeOf, highest, lowest, earliest, roundedUp, crossing, minimumN, convolutionN, _increasedBy_}
@@ -102,6 +102,10 @@ least-more L M = record {
 }
 
 -- ---- N from A and B
+
+-- a number is fixed by the numbers that it is not above
+pub bounds-fix : (S : ℕ → Type 0) (N M : ℕ) → ((n : ℕ) → (N ≤ n) ↔ S n) → ((n : ℕ) → (M ≤ n) ↔ S n) → N ≡ M
+bounds-fix S N M p q = le-antisymm (p M .1 (q M .0 (le-refl M))) (q N .1 (p N .0 (le-refl N)))
 
 pub rounded-up : (x y n : ℕ) → 0 < y → (roundedUp x y ≤ n) ↔ (x ≤ n * y)
 unfolding roundedUp

@@ -4,22 +4,24 @@
 -- f(n+d) = f(n)+c. Limits: d >= 1, T+d <= 256, c and each listed value <= 1,000,000. Curves never fall: no listed value is
 -- below the one before it."
 --
---     Curve           rank T, period d, increment c, listed values
---     WellFormed f    every limit of that paragraph; wellFormed f is the same as a test that computes (well-formed)
---     value f n       f(n), at any tick n
---     value-listed    below T + d it is the listed value
---     value-gains     from T on it gains c over d
---     value-only      and nothing else has both: the two sentences above leave one function
+--     Curve                     rank T, period d, increment c, listed values
+--     maxListed, maxUnits       the limits
+--     WellFormed f              every limit of that paragraph; wellFormed f is the same as a test that computes (well-formed)
+--     value f n                 f(n), at any tick n
+--     value-listed              below T + d it is the listed value
+--     value-gains               from T on it gains c over d; value-repeats: and k*c over k*d
+--     value-only                nothing else has both: the first two sentences above leave one function
 use Prim.Native.Nat.{ℕ, suc, _+_, _-_, _*_, _/_, _%_, _≤_, _<_, min}
 use mathlib.Core.Path.{_≡_, sym, ap, _∙_}
 use mathlib.Core.Bool.{Bool, true, _&&_}
 use mathlib.Core.List.{List}
+use mathlib.Core.Logic.{_↔_}
 use native.Mathlib.Omega.{arith}
-use native.Mathlib.Nat.{mod-eq-of-lt, div-eq-of-lt, add-mod-right, add-div-right, add-mul}
+use native.Mathlib.Nat.{mod-eq-of-lt, div-eq-of-lt, add-mod-right, add-div-right}
 use lib.ListN.{length, getD}
 use lib.Dec.{leb, eqb}
-use borrow.Author.Tests.{leb-true, eqb-true}
-use Rattle.minplus.specs.Gains.{Gains, every-period}
+use borrow.Author.Tests.{leb-true, eqb-true, le-leb, eq-eqb}
+use Rattle.minplus.specs.Gains.{Gains, every-period, gains-many}
 use Rattle.minplus.specs.Search.{allBelow, all-below, both-true}
 
 pub record Curve : Type 0 where
@@ -55,6 +57,19 @@ pub record WellFormed (f : Curve) : Type 0 where
 unfoldable pub value : Curve → ℕ → ℕ
 value f n = listedAt f (min n (f .rank) + (n - f .rank) % f .period) + (n - f .rank) / f .period * f .increment
 
+-- WellFormed as a test
+unfoldable pub wellFormed : Curve → Bool
+unfolding allBelow
+wellFormed f =
+    leb 1 (f .period)
+    && leb (count f) maxListed
+    && eqb (length (f .listed)) (count f)
+    && leb (f .increment) maxUnits
+    && allBelow (λ n. leb (listedAt f n) maxUnits) (count f)
+    && allBelow (λ n. leb (listedAt f n) (listedAt f (suc n))) (count f - 1)
+
+-- ---- laws
+
 pub value-listed : (f : Curve) → 1 ≤ f .period → (n : ℕ) → n < count f → value f n ≡ listedAt f n
 unfolding value
 value-listed f positive n lt =
@@ -77,35 +92,42 @@ value-gains f positive = record {
       ∙ omega arith;
 }
 
+pub value-repeats : (f : Curve) → 1 ≤ f .period → (n k : ℕ) → f .rank ≤ n → value f (n + k * f .period) ≡ value f n + k * f .increment
+value-repeats f positive n k le = gains-many (value-gains f positive) k .gain n le
+
 pub value-only : (f : Curve) → 1 ≤ f .period → (F : ℕ → ℕ) → ((n : ℕ) → n < count f → F n ≡ listedAt f n)
     → Gains F (f .rank) (f .period) (f .increment) → (n : ℕ) → F n ≡ value f n
 value-only f positive F listed gains =
     every-period (λ n. F n ≡ value f n) (f .rank) (f .period) positive (λ n lt. listed n lt ∙ sym (value-listed f positive n lt))
     (λ n le e. gains .gain n le ∙ ap (λ (x : ℕ). x + f .increment) e ∙ sym (value-gains f positive .gain n le))
 
-unfoldable pub wellFormed : Curve → Bool
-unfolding allBelow
-wellFormed f =
-    leb 1 (f .period)
-    && leb (count f) maxListed
-    && eqb (length (f .listed)) (count f)
-    && leb (f .increment) maxUnits
-    && allBelow (λ n. leb (listedAt f n) maxUnits) (count f)
-    && allBelow (λ n. leb (listedAt f n) (listedAt f (suc n))) (count f - 1)
-
-pub well-formed : (f : Curve) → wellFormed f ≡ true → WellFormed f
+pub well-formed : (f : Curve) → (wellFormed f ≡ true) ↔ WellFormed f
 unfolding wellFormed
-well-formed f e =
-    let rises = both-true _ (allBelow (λ n. leb (listedAt f n) (listedAt f (suc n))) (count f - 1)) e in
-    let fit = both-true _ (allBelow (λ n. leb (listedAt f n) maxUnits) (count f)) (rises .0) in
-    let increment = both-true _ (leb (f .increment) maxUnits) (fit .0) in
-    let whole = both-true _ (eqb (length (f .listed)) (count f)) (increment .0) in
-    let counts = both-true (leb 1 (f .period)) (leb (count f) maxListed) (whole .0) in
-    record {
-      period-positive = leb-true 1 (f .period) (counts .0);
-      count-fits = leb-true (count f) maxListed (counts .1);
-      listed-whole = eqb-true (length (f .listed)) (count f) (whole .1);
-      increment-fits = leb-true (f .increment) maxUnits (increment .1);
-      values-fit = λ n lt. leb-true (listedAt f n) maxUnits (all-below (λ m. leb (listedAt f m) maxUnits) (count f) (fit .1) n lt);
-      never-falls = λ n lt. leb-true (listedAt f n) (listedAt f (suc n)) (all-below (λ m. leb (listedAt f m) (listedAt f (suc m))) (count f - 1) (rises .1) n lt);
-    }
+well-formed f =
+    let fits : ℕ → Bool = λ n. leb (listedAt f n) maxUnits in
+    let rises : ℕ → Bool = λ n. leb (listedAt f n) (listedAt f (suc n)) in
+    let t₁ = both-true (leb 1 (f .period)) (leb (count f) maxListed) in
+    let t₂ = both-true _ (eqb (length (f .listed)) (count f)) in
+    let t₃ = both-true _ (leb (f .increment) maxUnits) in
+    let t₄ = both-true _ (allBelow fits (count f)) in
+    let t₅ = both-true _ (allBelow rises (count f - 1)) in (
+      λ e₅.
+          let e₄ = t₅ .0 e₅ .0 in
+          let e₃ = t₄ .0 e₄ .0 in
+          let e₂ = t₃ .0 e₃ .0 in
+          let e₁ = t₂ .0 e₂ .0 in
+          record {
+            period-positive = leb-true _ _ (t₁ .0 e₁ .0);
+            count-fits = leb-true _ _ (t₁ .0 e₁ .1);
+            listed-whole = eqb-true _ _ (t₂ .0 e₂ .1);
+            increment-fits = leb-true _ _ (t₃ .0 e₃ .1);
+            values-fit = λ n lt. leb-true _ _ (all-below fits _ .0 (t₄ .0 e₄ .1) n lt);
+            never-falls = λ n lt. leb-true _ _ (all-below rises _ .0 (t₅ .0 e₅ .1) n lt);
+          },
+      λ w.
+          let e₁ = t₁ .1 (le-leb _ _ (w .period-positive), le-leb _ _ (w .count-fits)) in
+          let e₂ = t₂ .1 (e₁, eq-eqb _ _ (w .listed-whole)) in
+          let e₃ = t₃ .1 (e₂, le-leb _ _ (w .increment-fits)) in
+          let e₄ = t₄ .1 (e₃, all-below fits _ .1 (λ n lt. le-leb _ _ (w .values-fit n lt))) in
+          t₅ .1 (e₄, all-below rises _ .1 (λ n lt. le-leb _ _ (w .never-falls n lt))),
+    )

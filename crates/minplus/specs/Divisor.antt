@@ -7,7 +7,7 @@
 --     gcd-left, gcd-right, gcd-greatest     it divides both, and each common divisor divides it
 --     lcm a b          a / gcd a b * b
 --     lcm-left, lcm-right, lcm-least        both divide it, and it divides each common multiple; lcm-comm, lcm-positive
-use Prim.Native.Nat.{ℕ, zero, suc, _+_, _-_, _*_, _/_, _%_, _≤_, _<_, _∣_}
+use Prim.Native.Nat.{ℕ, zero, suc, _-_, _*_, _/_, _%_, _<_, _∣_}
 use mathlib.Core.Path.{_≡_, refl, sym, ap, _∙_, subst}
 use native.Mathlib.Omega.{arith}
 use native.Mathlib.Nat.{mod-lt, dvd-refl, dvd-zero, dvd-mod-iff, dvd-mul-left, dvd-mul-right, dvd-sub, dvd-antisymm, div-mul-cancel, pos-of-dvd-of-pos, dvd-mul-left-of-dvd, div-add-mod', dvd-of-mul-dvd-mul-left, mul-comm, mul-dvd-mul-left, mul-pos, one-mul, eq-zero-of-zero-dvd, mul-dvd-mul-right}

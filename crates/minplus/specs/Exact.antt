@@ -3,21 +3,23 @@
 --     verdict-exact       the verdict on c is v exactly when Meaning c v: every verdict, every kind
 --     verdict-one         two verdicts that Meaning allows are one
 --     accepted-exactly    code 1 exactly when the horizon is at most 4,096 and what is claimed is so
---     refuted-exactly     kinds 1 to 3: code 2 exactly when it is at most 4,096 and h and the due value differ somewhere
+--     backlog-exact       kind 7 claims the vertical deviation
+--     results-judged      kinds 1 to 3 within 4,096: accepted and equal at every tick, or the first tick that differs is named with both values
+--     refuted-exactly     so there code 2 is given exactly when h and the due value differ somewhere
 --     (codes 5, 3 and 4, and what code 2 names, are verdict-exact as it stands)
 --
 -- Before them: a tick's test and its rule (rule-kept, rule-broken), from the tried ticks to every tick (results-agree,
 -- tried-enough, rate-outpaced), and what each test on the way to a verdict tells (break-none, break-at, break-found, less-means).
-use Prim.Native.Nat.{ℕ, zero, suc, _+_, _-_, _≤_, _<_, max}
+use Prim.Native.Nat.{ℕ, _+_, _-_, _≤_, _<_, max}
 use mathlib.Core.Path.{_≡_, refl, sym, ap, _∙_, subst}
-use mathlib.Core.Bool.{Bool, true, false, true≢false, false≢true}
-use mathlib.Core.Logic.{_↔_, _⊎_, inl, inr}
+use mathlib.Core.Bool.{Bool, true, false, false≢true}
+use mathlib.Core.Logic.{_↔_, _⊎_, inl, inr, ⊎-elim}
 use mathlib.Core.Option.{Option, none, some}
 use native.Mathlib.Omega.{arith}
-use native.Mathlib.Nat.{not-le-of-lt}
+use native.Mathlib.Nat.{eq-zero-or-pos, not-le-of-lt}
 use lib.Dec.{ltb}
 use borrow.Author.Tests.{ltb-true, ltb-false, lt-ltb, le-ltb, eqb-true, eqb-false, not-true, not-false}
-use Rattle.minplus.specs.Claim.{Bound, Claim, Claimed, Deviation, Operation, allowed, atMost, backlog, bounds, delay, due, equals, exactly}
+use Rattle.minplus.specs.Claim.{Bound, Claim, Claimed, Deviation, Operation, VerticalDeviation, allowed, atMost, backlog, bounds, delay, due, equals, exactly}
 use Rattle.minplus.specs.Curve.{Curve, value, value-gains}
 use Rattle.minplus.specs.Divisor.{lcm, lcm-left, lcm-positive, lcm-right}
 use Rattle.minplus.specs.Gains.{Gains, below-forever, equal-forever, gains-later, gains-multiple, outgrows}
@@ -221,22 +223,50 @@ accepted-exactly c p =
       λ t. let m = claimed c p .0 (t .1) in e .1 (t .0, m .0, m .1),
     )
 
--- kinds 1 to 3 are never refuted by rate nor as not least, so a difference anywhere is named
-pub refuted-exactly : (op : Operation) (f g h : Curve) → (p : Proper (equals op f g h))
-    → ((n : ℕ) × (left : ℕ) × (right : ℕ) × (verdict (equals op f g h) ≡ refutedAt n left right))
-    ↔ ((horizon (equals op f g h) ≤ maxHorizon) × (n : ℕ) × (¬ (value h n ≡ due op (value f) (value g) n)))
-refuted-exactly op f g h p = (there, λ t. back (verdict c) refl (verdict-means c p) (t .0) (t .1) (t .2))
+-- kind 7 claims the vertical deviation
+pub backlog-exact : (f g : Curve) (X : ℕ) → 1 ≤ f .period → 1 ≤ g .period
+    → Claimed (bounds backlog exactly f g X) ↔ VerticalDeviation (value f) (value g) X
+unfolding allowed
+backlog-exact f g X positive positive′ =
+    let both = claimed (bounds backlog exactly f g X) (positive, positive′) in (
+      λ t.
+          let t′ = both .0 t in
+          (λ s. omega (arith, t .0 s), reached (t .0) (t′ .1)),
+      λ t. both .1 (λ s. omega (arith, t .0 s), tight (t .1)),
+    )
+  where
+    reached : ((s : ℕ) → value f s ≤ value g s + X) → (X ≡ 0) ⊎ ((s : ℕ) × (¬ (value f s ≤ value g s + (X - 1)))) → (s : ℕ) × (value f s - value g s ≡ X)
+    reached all (inl e) = (0, omega (arith, all 0, e))
+    reached all (inr t) = (t .0, omega (arith, all (t .0), t .1))
+
+    tight : (s : ℕ) × (value f s - value g s ≡ X) → (X ≡ 0) ⊎ ((s : ℕ) × (¬ (value f s ≤ value g s + (X - 1))))
+    tight t = elim (eq-zero-or-pos X) [ inl e ↦ inl e | inr h ↦ inr (t .0, omega (arith, t .1, h)) ]
+
+-- kinds 1 to 3 within the limit: equal at every tick, or the first tick that differs is named with both values
+pub results-judged : (op : Operation) (f g h : Curve) → Proper (equals op f g h) → horizon (equals op f g h) ≤ maxHorizon
+    → ((verdict (equals op f g h) ≡ accepted) × ((n : ℕ) → value h n ≡ due op (value f) (value g) n))
+    ⊎ ((n : ℕ) × (verdict (equals op f g h) ≡ refutedAt n (due op (value f) (value g) n) (value h n))
+    × ((m : ℕ) → m < n → value h m ≡ due op (value f) (value g) m) × (¬ (value h n ≡ due op (value f) (value g) n)))
+unfolding leftAt rightAt
+results-judged op f g h p w = go (verdict c) refl (verdict-means c p)
   where
     c : Claim
     c = equals op f g h
 
-    there : (n : ℕ) × (left : ℕ) × (right : ℕ) × (verdict c ≡ refutedAt n left right) → (horizon c ≤ maxHorizon) × (n : ℕ) × (¬ (Rule c n))
-    there t = let m = verdict-exact c p (refutedAt (t .0) (t .1) (t .2)) .0 (t .3) in (m .0, t .0, m .3)
+    go : (v : Verdict) → verdict c ≡ v → Meaning c v
+        → ((verdict c ≡ accepted) × ((n : ℕ) → Rule c n))
+        ⊎ ((n : ℕ) × (verdict c ≡ refutedAt n (leftAt c n) (rightAt c n)) × ((m : ℕ) → m < n → Rule c m) × (¬ (Rule c n)))
+    go accepted e m = inl (e, m .1)
+    go (refutedAt n left right) e m = inr (n, e ∙ (λ i. refutedAt n (m .4 i) (m .5 i)), m .2, m .3)
+    go refutedByRate e m = let at = m .2 in absurd (at .1 (results-agree op f g h p (m .1) (at .0)))
+    go notLeast e m = absurd (m .2)
+    go notJudged e m = absurd (not-le-of-lt m w)
 
-    back : (v : Verdict) → verdict c ≡ v → Meaning c v → horizon c ≤ maxHorizon → (n : ℕ) → ¬ (Rule c n)
-        → (n : ℕ) × (left : ℕ) × (right : ℕ) × (verdict c ≡ refutedAt n left right)
-    back accepted e m w n fails = absurd (fails (m .1 n))
-    back (refutedAt tick left right) e m w n fails = (tick, left, right, e)
-    back refutedByRate e m w n fails = absurd (fails (results-agree op f g h p (m .1) n))
-    back notLeast e m w n fails = absurd (m .2)
-    back notJudged e m w n fails = absurd (not-le-of-lt m w)
+-- so a difference anywhere is code 2
+pub refuted-exactly : (op : Operation) (f g h : Curve) → Proper (equals op f g h)
+    → ((n : ℕ) × (left : ℕ) × (right : ℕ) × (verdict (equals op f g h) ≡ refutedAt n left right))
+    ↔ ((horizon (equals op f g h) ≤ maxHorizon) × (n : ℕ) × (¬ (value h n ≡ due op (value f) (value g) n)))
+refuted-exactly op f g h p = (
+  λ t. let m = verdict-exact (equals op f g h) p (refutedAt (t .0) (t .1) (t .2)) .0 (t .3) in (m .0, t .0, m .3),
+  λ t. ⊎-elim (λ a. absurd (t .2 (a .1 (t .1)))) (λ r. (r .0, _, _, r .1)) (results-judged op f g h p (t .0)),
+)

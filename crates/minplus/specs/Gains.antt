@@ -6,11 +6,12 @@
 --     gains-multiple    over a multiple of the period
 --     gains-later       from any later tick on; gains-same: for a function that is the same at every tick
 --     gained-back       the gain seen from the end of a period
---     gains-sum         a sum gains both gains; gains-min: a minimum of two that gain alike gains that
+--     gains-sum         a sum gains both gains
+--     every-period      a fact at every tick, from the ticks below K + P and a step over P
 --     equal-forever     two functions that gain over P from K on and agree on 0 to K + P agree at every tick
 --     below-forever     F <= G at the ticks below K + P and F gains no more than G: F <= G at every tick
 --     outgrows          F gains more than G: F > G at some tick
-use Prim.Native.Nat.{ℕ, zero, suc, _+_, _-_, _*_, _/_, _≤_, _<_, _∣_, min}
+use Prim.Native.Nat.{ℕ, zero, suc, _+_, _-_, _*_, _/_, _≤_, _<_, _∣_}
 use mathlib.Core.Path.{_≡_, sym, ap, _∙_, subst}
 use native.Mathlib.Omega.{arith}
 use native.Mathlib.Nat.{mul-le-mul-left, sub-add-cancel, div-mul-cancel}
@@ -46,9 +47,6 @@ gained-back {F} {K} {P} G n le = ap F (sym (sub-add-cancel {n = n} {m = P} (omeg
 
 pub gains-sum : {F G : ℕ → ℕ} {K P a b : ℕ} → Gains F K P a → Gains G K P b → Gains (λ n. F n + G n) K P (a + b)
 gains-sum {F} {G} GF GG = record { gain = λ n le. omega (arith, GF .gain n le, GG .gain n le) }
-
-pub gains-min : {F G : ℕ → ℕ} {K P a : ℕ} → Gains F K P a → Gains G K P a → Gains (λ n. min (F n) (G n)) K P a
-gains-min GF GG = record { gain = λ n le. omega (arith, GF .gain n le, GG .gain n le) }
 
 -- a fact at every tick, from the ticks up to K + P - 1 and a step over one period: P ticks are never left out, since P > 0
 module _ (S : ℕ → Type 0) (K P : ℕ) (positive : 0 < P) (first : (n : ℕ) → n < K + P → S n) (step : (n : ℕ) → K ≤ n → S n → S (n + P)) where

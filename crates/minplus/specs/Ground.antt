@@ -1,15 +1,57 @@
-use Prim.Native.Nat.{ℕ, zero, suc, _+_}
-use lib.ListN.{replicate}
-use mathlib.Core.Path.{_≡_, refl, ap}
-use mathlib.Core.Bool.{Bool, true}
+-- Document 01, 'Ground to check against': W1 to W12 from the rules, as one table with one computed test. Below them stand the
+-- edges that its 'Errors that look right' names, and some more; each comment says which wrong reading the row rules out.
+--
+--     table, ground     what is asked and the due answer; the test: every answer is the due one
+--     ground-at         the answer of each row by itself; accepted-at: of a row that is accepted
+--     well-formed-A, well-formed-B, well-formed-AB     the theorems' hypotheses can be met: by the curves of W4 and W8
+--     convolution-AB, exact-delay-AB                   so W4 and W8 hold at every tick, without end
+use Prim.Native.Nat.{ℕ, suc, zero, _+_, _<_}
+use lib.Dec.{lit<, lit≤}
+use lib.ListN.{getD, length, replicate}
 use mathlib.Core.List.{List, [], _∷_, map}
-use Rattle.minplus.specs.Curve.{Curve, value, WellFormed, wellFormed, well-formed}
-use Rattle.minplus.specs.Claim.{Claim, equals, bounds, sum, minimum, convolution, delay, backlog, atMost, exactly}
-use Rattle.minplus.specs.Horizon.{horizon, minimumN, convolutionN}
-use Rattle.minplus.specs.Verdict.{Verdict, accepted, refutedAt, refutedByRate, notLeast, notJudged, verdict}
+use mathlib.Core.Path.{_≡_, ap, refl, sym, _∙_}
+use native.Mathlib.Nat.{le-of-suc-le-suc, not-suc-le-zero}
+use Rattle.minplus.specs.Claim.{Claim, Claimed, atMost, backlog, bounds, convolution, delay, due, equals, exactly, minimum, sum}
+use Rattle.minplus.specs.Conv.{conv}
+use Rattle.minplus.specs.Curve.{Curve, WellFormed, value, well-formed, wellFormed}
+use Rattle.minplus.specs.Exact.{accepted-exactly}
+use Rattle.minplus.specs.Horizon.{horizon}
+use Rattle.minplus.specs.Meaning.{well-formed-proper}
+use Rattle.minplus.specs.Verdict.{Verdict, accepted, notJudged, notLeast, recordOf, refutedAt, refutedByRate, verdict}
+
+data Question : Type 0 where
+  valueOf : Curve → ℕ → Question
+  horizonOf : Claim → Question
+  verdictOf : Claim → Question
+  recorded : Claim → Question
+
+data Answer : Type 0 where
+  number : ℕ → Answer
+  judged : Verdict → Answer
+  fields : (code tick left right : ℕ) → Answer
+
+answer : Question → Answer
+unfolding value horizon verdict recordOf
+answer (valueOf f n) = number (value f n)
+answer (horizonOf c) = number (horizon c)
+answer (verdictOf c) = judged (verdict c)
+answer (recorded c) = let r = recordOf (verdict c) in fields (r .code) (r .tick) (r .left) (r .right)
+
+record Row : Type 0 where
+  asked : Question
+  answered : Answer
+
+infix 70 _is_
+_is_ : Question → Answer → Row
+q is a = record { asked = q; answered = a }
 
 curve : ℕ → ℕ → ℕ → List ℕ → Curve
 curve T d c values = record { rank = T; period = d; increment = c; listed = values }
+
+-- T + d times the same value, with increment 0
+flat : ℕ → ℕ → ℕ → Curve
+unfolding curve
+flat T d x = curve T d 0 (replicate (T + d) x)
 
 A : Curve
 unfolding curve
@@ -23,59 +65,135 @@ S : Curve
 unfolding curve
 S = curve 0 3 2 (2 ∷ 2 ∷ 2 ∷ [])
 
--- what is asked, and what the answer is
-data Question : Type 0 where
-  valueOf : Curve → ℕ → Question
-  horizonOf : Claim → Question
-  verdictOf : Claim → Question
-
-data Answer : Type 0 where
-  number : ℕ → Answer
-  judged : Verdict → Answer
-
-answer : Question → Answer
-unfolding value horizon verdict
-answer (valueOf f n) = number (value f n)
-answer (horizonOf c) = number (horizon c)
-answer (verdictOf c) = judged (verdict c)
-
-record Row : Type 0 where
-  asked : Question
-  due : Answer
-
-row : Question → Answer → Row
-row q a = record { asked = q; due = a }
-
-zeros : ℕ → ℕ → Curve
+-- the claimed curves of W3 and W4
+minAB : Curve
 unfolding curve
-zeros T d = curve T d 0 (replicate (T + d) 0)
+minAB = curve 7 1 1 (0 ∷ 0 ∷ 0 ∷ 2 ∷ 4 ∷ 6 ∷ 8 ∷ 10 ∷ [])
+
+convAB : Curve
+unfolding curve
+convAB = curve 5 1 1 (0 ∷ 0 ∷ 0 ∷ 2 ∷ 4 ∷ 6 ∷ [])
+
+-- one unit a tick
+line : Curve
+unfolding curve
+line = curve 0 1 1 (0 ∷ [])
+
+-- 0, 10, 1, 11 and so on: the listed values rise, and the curve falls at the seam of its period
+seam : Curve
+unfolding curve
+seam = curve 0 2 1 (0 ∷ 10 ∷ [])
 
 table : List Row
-unfolding curve A B S row zeros
+unfolding _is_ flat A B S minAB convAB line seam
 table =
-    row (valueOf A 5) (number 8)
-    ∷ row (valueOf B 5) (number 6)
-    ∷ row (verdictOf (equals sum A B (curve 2 1 3 (0 ∷ 4 ∷ 5 ∷ [])))) (judged accepted)
-    ∷ row (verdictOf (equals minimum A B (curve 7 1 1 (0 ∷ 0 ∷ 0 ∷ 2 ∷ 4 ∷ 6 ∷ 8 ∷ 10 ∷ [])))) (judged accepted)
-    ∷ row (horizonOf (equals minimum A B (curve 7 1 1 (0 ∷ 0 ∷ 0 ∷ 2 ∷ 4 ∷ 6 ∷ 8 ∷ 10 ∷ [])))) (number 8)
-    ∷ row (verdictOf (equals convolution A B (curve 5 1 1 (0 ∷ 0 ∷ 0 ∷ 2 ∷ 4 ∷ 6 ∷ [])))) (judged accepted)
-    ∷ row (horizonOf (equals convolution A B (curve 5 1 1 (0 ∷ 0 ∷ 0 ∷ 2 ∷ 4 ∷ 6 ∷ [])))) (number 6)
-    ∷ row (verdictOf (equals convolution A B (curve 5 1 2 (0 ∷ 0 ∷ 0 ∷ 2 ∷ 4 ∷ 6 ∷ [])))) (judged (refutedAt 6 7 8))
-    ∷ row (verdictOf (equals convolution S S (curve 2 3 2 (4 ∷ 4 ∷ 4 ∷ 4 ∷ 4 ∷ [])))) (judged accepted)
-    ∷ row (horizonOf (equals convolution S S (curve 2 3 2 (4 ∷ 4 ∷ 4 ∷ 4 ∷ 4 ∷ [])))) (number 6)
-    ∷ row (verdictOf (equals convolution S S (curve 0 3 2 (4 ∷ 4 ∷ 4 ∷ [])))) (judged (refutedAt 3 4 6))
-    ∷ row (verdictOf (bounds delay exactly A B 3)) (judged accepted)
-    ∷ row (verdictOf (bounds delay atMost A B 2)) (judged (refutedAt 1 4 2))
-    ∷ row (verdictOf (bounds delay exactly A B 4)) (judged notLeast)
-    ∷ row (verdictOf (bounds backlog atMost A B 4)) (judged (refutedAt 2 5 4))
-    ∷ row (verdictOf (bounds backlog exactly A B 5)) (judged accepted)
-    ∷ row (verdictOf (bounds delay atMost B A 0)) (judged refutedByRate)
-    ∷ row (verdictOf (equals sum (zeros 0 61) (zeros 0 67) (zeros 10 1))) (judged notJudged)
-    ∷ row (horizonOf (equals sum (zeros 0 61) (zeros 0 67) (zeros 9 1))) (number 4096)
-    ∷ row (verdictOf (equals convolution (curve 1 1 0 (0 ∷ 100 ∷ [])) (curve 0 1 1 (0 ∷ [])) (curve 0 1 1 (0 ∷ [])))) (judged (refutedAt 101 100 101))
-    ∷ row (horizonOf (equals convolution (curve 0 1 0 (5 ∷ [])) (curve 0 1 1 (0 ∷ [])) (curve 0 1 0 (5 ∷ [])))) (number 2)
+    -- W1
+    valueOf A 5 is number 8
+    ∷ valueOf B 5 is number 6
+    -- W2
+    ∷ verdictOf (equals sum A B (curve 2 1 3 (0 ∷ 4 ∷ 5 ∷ []))) is judged accepted
+    -- W3
+    ∷ verdictOf (equals minimum A B minAB) is judged accepted
+    ∷ horizonOf (equals minimum A B minAB) is number 8
+    -- W4
+    ∷ verdictOf (equals convolution A B convAB) is judged accepted
+    ∷ horizonOf (equals convolution A B convAB) is number 6
+    -- W5
+    ∷ verdictOf (equals convolution A B (curve 5 1 2 (0 ∷ 0 ∷ 0 ∷ 2 ∷ 4 ∷ 6 ∷ []))) is judged (refutedAt 6 7 8)
+    -- W6
+    ∷ verdictOf (equals convolution S S (curve 2 3 2 (4 ∷ 4 ∷ 4 ∷ 4 ∷ 4 ∷ []))) is judged accepted
+    ∷ horizonOf (equals convolution S S (curve 2 3 2 (4 ∷ 4 ∷ 4 ∷ 4 ∷ 4 ∷ []))) is number 6
+    -- W7
+    ∷ verdictOf (equals convolution S S (curve 0 3 2 (4 ∷ 4 ∷ 4 ∷ []))) is judged (refutedAt 3 4 6)
+    -- W8
+    ∷ verdictOf (bounds delay exactly A B 3) is judged accepted
+    -- W9
+    ∷ verdictOf (bounds delay atMost A B 2) is judged (refutedAt 1 4 2)
+    -- W10
+    ∷ verdictOf (bounds delay exactly A B 4) is judged notLeast
+    -- W11
+    ∷ verdictOf (bounds backlog atMost A B 4) is judged (refutedAt 2 5 4)
+    ∷ verdictOf (bounds backlog exactly A B 5) is judged accepted
+    -- W12
+    ∷ verdictOf (bounds delay atMost B A 0) is judged refutedByRate
+    -- one record for each code
+    ∷ recorded (bounds delay exactly A B 3) is fields 1 0 0 0
+    ∷ recorded (bounds delay atMost A B 2) is fields 2 1 4 2
+    ∷ recorded (bounds delay atMost B A 0) is fields 3 0 0 0
+    ∷ recorded (bounds delay exactly A B 4) is fields 4 0 0 0
+    ∷ recorded (equals sum (flat 0 61 0) (flat 0 67 0) (flat 10 1 0)) is fields 5 0 0 0
+    -- N by itself, under no greater rank of h; not rounded up it would be 2 in the last of these
+    ∷ horizonOf (equals minimum A B (flat 0 1 0)) is number 8
+    ∷ horizonOf (equals convolution A B (flat 0 1 0)) is number 6
+    ∷ horizonOf (equals minimum (flat 0 1 5) (curve 0 1 2 (0 ∷ [])) (flat 0 1 0)) is number 4
+    -- N at T = 0 with different rates, either curve the slower one: the empty minimum read as 0 would give 6
+    ∷ horizonOf (equals convolution (flat 0 1 5) line (flat 0 1 5)) is number 2
+    ∷ horizonOf (equals convolution line (flat 0 1 5) (flat 0 1 5)) is number 2
+    -- with T+T'+D for the rank, ticks 0 to 3 alone would be compared, and agree
+    ∷ verdictOf (equals convolution (curve 1 1 0 (0 ∷ 100 ∷ [])) line line) is judged (refutedAt 101 100 101)
+    -- rates 1/2 and 2/3, both 0 in whole numbers
+    ∷ horizonOf (equals minimum (curve 0 2 1 (0 ∷ 0 ∷ [])) (curve 0 3 2 (0 ∷ 0 ∷ 0 ∷ [])) (flat 0 1 0)) is number 14
+    -- P has h's period too; kinds 4 to 7 have max(T,T')+D
+    ∷ horizonOf (equals sum S S (flat 0 2 0)) is number 6
+    ∷ horizonOf (bounds delay atMost B S 7) is number 5
+    -- a horizon of 4,096 is judged, one of 4,097 is not, though its tick 0 differs
+    ∷ verdictOf (equals sum (flat 0 61 0) (flat 0 67 0) (flat 9 1 1)) is judged (refutedAt 0 0 1)
+    ∷ verdictOf (equals sum (flat 0 61 0) (flat 0 67 0) (flat 10 1 1)) is judged notJudged
+    -- the order of the codes: 2 before 3, and 3 before 4
+    ∷ verdictOf (bounds backlog atMost (curve 0 1 2 (5 ∷ [])) line 4) is judged (refutedAt 0 5 4)
+    ∷ verdictOf (bounds delay exactly B A 5) is judged refutedByRate
+    -- equal rates are not refuted by rate; X = 0 has no X-1, also where f is below g throughout
+    ∷ verdictOf (bounds delay exactly A A 0) is judged accepted
+    ∷ verdictOf (bounds backlog exactly (flat 0 1 0) A 0) is judged accepted
+    -- a curve that falls at its seam
+    ∷ valueOf seam 2 is number 1
+    ∷ verdictOf (equals sum seam seam (curve 0 2 2 (0 ∷ 20 ∷ []))) is judged accepted
     ∷ []
 
-ground : map (λ r. answer (r .asked)) table ≡ map (λ r. r .due) table
+ground : map (λ r. answer (r .asked)) table ≡ map (λ r. r .answered) table
 unfolding answer table
 ground = refl
+
+each-row : (rows : List Row) (f : Row → Answer) (i : ℕ) (r : Row) (a : Answer) → i < length rows → getD (map f rows) i a ≡ f (getD rows i r)
+each-row [] f i r a lt = absurd (not-suc-le-zero lt)
+each-row (row ∷ rows) f zero r a lt = refl
+each-row (row ∷ rows) f (suc i) r a lt = each-row rows f i r a (le-of-suc-le-suc lt)
+
+ground-at : (i : ℕ) (r : Row) → i < length table → answer ((getD table i r) .asked) ≡ (getD table i r) .answered
+ground-at i r lt =
+    sym (each-row table (λ q. answer (q .asked)) i r (r .answered) lt)
+    ∙ ap (λ (l : List Answer). getD l i (r .answered)) ground
+    ∙ each-row table (λ q. q .answered) i r (r .answered) lt
+
+-- an accepted row of the table
+accepted-at : (i : ℕ) (c : Claim) → i < length table → getD table i (verdictOf c is judged accepted) ≡ verdictOf c is judged accepted
+    → verdict c ≡ accepted
+unfolding _is_ answer
+accepted-at i c lt e = judged-inj (sym (ap (λ (r : Row). answer (r .asked)) e) ∙ ground-at i (verdictOf c is judged accepted) lt ∙ ap (λ (r : Row). r .answered) e)
+  where
+    judged-inj : {v w : Verdict} → judged v ≡ judged w → v ≡ w
+    judged-inj e = cc
+
+well-formed-A : WellFormed A
+unfolding wellFormed A
+well-formed-A = well-formed A .0 refl
+
+well-formed-B : WellFormed B
+unfolding wellFormed B
+well-formed-B = well-formed B .0 refl
+
+well-formed-AB : WellFormed convAB
+unfolding wellFormed convAB
+well-formed-AB = well-formed convAB .0 refl
+
+convolution-AB : (n : ℕ) → value convAB n ≡ conv (value A) (value B) n
+unfolding table due
+convolution-AB =
+    let c : Claim = equals convolution A B convAB in
+    accepted-exactly c (well-formed-proper c (well-formed-A, well-formed-B, well-formed-AB)) .0 (accepted-at 5 c (lit< tt) refl) .1
+
+exact-delay-AB : Claimed (bounds delay exactly A B 3)
+unfolding table
+exact-delay-AB =
+    let c : Claim = bounds delay exactly A B 3 in
+    accepted-exactly c (well-formed-proper c (well-formed-A, well-formed-B, lit≤ tt)) .0 (accepted-at 11 c (lit< tt) refl) .1

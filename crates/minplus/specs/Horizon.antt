@@ -4,19 +4,19 @@
 -- right one's. Its N is a whole-number formula with differences that may be below 0: here such a difference is kept as a
 -- pair of natural numbers, plus less minus, and truncated subtraction is the formula's "larger of 0".
 --
---     period² f g       D, the least common multiple of d and d'
---     Signed            plus less minus
---     extremeOf         the greatest or the least d*f(t) - c*t over some ticks t; A and B are such
---     roundedUp x y     x/y rounded up
---     crossing          N from A and B
---     minimumN, convolutionN     N where f is the slower one; Crossing.antt pins both without shifts
---     rankOf            R
---     horizon           of a claim; maxHorizon, the limit above which nothing is judged
-use Prim.Native.Nat.{ℕ, zero, suc, _+_, _-_, _*_, _/_, _≤_, _<_, min, max}
-use mathlib.Core.Path.{_≡_}
+--     commonPeriod           D
+--     slower, byRates        rates compared by cross products, and a rank for each of the three ways that they can stand
+--     Signed, increasedBy    plus less minus
+--     extremeOf              the greatest or the least d*f(t) - c*t over some ticks t
+--     highest, lowest, earliest     the A, the B and the last list's least value of document 01
+--     roundedUp, crossing    x/y rounded up; N from A and B
+--     minimumN, convolutionN N where f is the slower one; Crossing.antt pins both without shifts
+--     rankOf                 R; lastRank and fullPeriod: K and P
+--     horizon, maxHorizon    of a claim, and the limit above which nothing is judged
+use Prim.Native.Nat.{ℕ, zero, suc, _+_, _-_, _*_, _/_, min, max}
 use mathlib.Core.Bool.{Bool, true, false}
 use lib.Dec.{ltb}
-use Rattle.minplus.specs.Search.{best, least, greatest}
+use Rattle.minplus.specs.Search.{best}
 use Rattle.minplus.specs.Curve.{Curve, value}
 use Rattle.minplus.specs.Divisor.{lcm}
 use Rattle.minplus.specs.Claim.{Operation, sum, minimum, convolution, Claim, equals, bounds}

@@ -1,3 +1,4 @@
+-- The mathematics of document 01. First what is defined, in its order: a reader holds these beside it. Then what is proved.
 pub mod Curve
 pub mod Conv
 pub mod Claim
@@ -5,8 +6,9 @@ pub mod Divisor
 pub mod Horizon
 pub mod Verdict
 pub mod Meaning
-pub mod Gains
+-- laws and theorems
 pub mod Search
+pub mod Gains
 pub mod Crossing
 pub mod Ranks
 pub mod Exact

@@ -2,15 +2,15 @@
 -- the one verdict that says what is so.
 --
 --     Rule c n      the claim's rule at one tick: the Claims table without its "at every tick"
---     Proper c      no curve of c has period 0; curves that are well formed are such (well-formed-proper)
+--     Proper c      no curve of c has period 0: all that the theorems ask, and a well-formed claim is such (well-formed-proper)
 --     Tight c       kinds 5 and 7: X = 0, or X-1 fails at some tick
 --     Loose c       kinds 5 and 7: X > 0, and X-1 holds at every tick
 --     Meaning c v   the table of verdicts, over all ticks
 use Prim.Native.Nat.{ℕ, _-_, _≤_, _<_}
 use mathlib.Core.Path.{_≡_}
 use mathlib.Core.Logic.{_⊎_}
-use Rattle.minplus.specs.Claim.{Claim, allowed, atMost, bounds, due, equals, exactly}
-use Rattle.minplus.specs.Curve.{WellFormed, value}
+use Rattle.minplus.specs.Claim.{Claim, WellFormedClaim, allowed, atMost, bounds, due, equals, exactly}
+use Rattle.minplus.specs.Curve.{value}
 use Rattle.minplus.specs.Horizon.{horizon, maxHorizon}
 use Rattle.minplus.specs.Verdict.{Verdict, accepted, leftAt, notJudged, notLeast, refutedAt, refutedByRate, rightAt, tried}
 
@@ -22,11 +22,7 @@ abbrev pub Proper : Claim → Type 0
 Proper (equals op f g h) = (1 ≤ f .period) × (1 ≤ g .period) × (1 ≤ h .period)
 Proper (bounds δ t f g X) = (1 ≤ f .period) × (1 ≤ g .period)
 
-abbrev pub CurvesWellFormed : Claim → Type 0
-CurvesWellFormed (equals op f g h) = WellFormed f × WellFormed g × WellFormed h
-CurvesWellFormed (bounds δ t f g X) = WellFormed f × WellFormed g
-
-pub well-formed-proper : (c : Claim) → CurvesWellFormed c → Proper c
+pub well-formed-proper : (c : Claim) → WellFormedClaim c → Proper c
 well-formed-proper (equals op f g h) w = (w .0 .period-positive, w .1 .period-positive, w .2 .period-positive)
 well-formed-proper (bounds δ t f g X) w = (w .0 .period-positive, w .1 .period-positive)
 

@@ -5,21 +5,20 @@
 --     split-crossed     at and after N a split that leaves f less than T ticks is no better than the one that leaves g T' ticks
 --     conv-gains        a convolution gains the smaller gain, where such splits are not needed
 --     gainOf, rank-gains     the gain over D, and the theorem for every operation
-use Prim.Native.Nat.{ℕ, zero, suc, _+_, _-_, _*_, _/_, _%_, _≤_, _<_, _∣_, min, max}
+use Prim.Native.Nat.{ℕ, _+_, _-_, _*_, _/_, _%_, _≤_, _<_, min, max}
 use mathlib.Core.Path.{_≡_, refl, sym, ap, _∙_, subst}
 use mathlib.Core.Bool.{Bool, true, false}
 use native.Mathlib.Omega.{arith}
-use native.Mathlib.Nat.{le-antisymm, mod-lt, mod-add-div', div-mul-cancel, le-of-mul-le-mul-left, mul-pos, mul-le-mul-left, min-eq-left, min-eq-right, add-sub-of-le, sub-add-cancel, lt-of-mul-lt-mul-left, mul-lt-mul-of-pos-left, mul-comm, eq-of-mul-eq-mul-left}
+use native.Mathlib.Nat.{le-antisymm, mod-lt, mod-add-div', div-mul-cancel, le-of-mul-le-mul-left, mul-pos, mul-le-mul-left, min-eq-left, lt-of-mul-lt-mul-left, mul-lt-mul-of-pos-left, mul-comm, eq-of-mul-eq-mul-left}
 use native.Mathlib.Decide.{decLe}
-use lib.Dec.{ltb}
 use borrow.Author.Tests.{ltb-true, ltb-false}
-use Rattle.minplus.specs.Gains.{Gains, gains-many, gains-multiple, gains-later, gains-same, gained-back, gains-sum, gains-min}
-use Rattle.minplus.specs.Curve.{Curve, value, value-gains}
+use Rattle.minplus.specs.Gains.{Gains, gains-multiple, gains-later, gains-same, gained-back, gains-sum}
+use Rattle.minplus.specs.Curve.{Curve, value, value-gains, value-repeats}
 use Rattle.minplus.specs.Divisor.{lcm, lcm-left, lcm-right, lcm-comm, lcm-positive}
 use Rattle.minplus.specs.Conv.{conv, conv-below, conv-attained, conv-above, conv-comm}
 use Rattle.minplus.specs.Claim.{Operation, sum, minimum, convolution, due}
 use Rattle.minplus.specs.Horizon.{commonPeriod, slower, byRates, minimumN, convolutionN, slowMinimum, slowConvolution, rankOf}
-use Rattle.minplus.specs.Crossing.{In, Slower, Crossed, SplitCrossed, minimumN-law, convolutionN-law}
+use Rattle.minplus.specs.Crossing.{In, Slower, minimumN-law, convolutionN-law}
 
 -- a tick from the rank on, brought back into the first period: t + k*d, where f is f(t) + k*c
 pub record FirstPeriod (f : Curve) (m : ℕ) : Type 0 where
@@ -37,7 +36,7 @@ first-period f positive m le =
       tick = (t, omega arith, omega (arith, mod-lt (m - f .rank) positive));
       periods = k;
       same = e;
-      gained = ap (value f) (sym e) ∙ gains-many (value-gains f positive) k .gain t (omega arith);
+      gained = ap (value f) (sym e) ∙ value-repeats f positive t k (omega arith);
     }
 
 -- the arithmetic of both crossings: x and y are values in the first periods, X and Y those k and k' periods later, P and Q what a

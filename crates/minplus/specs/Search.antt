@@ -9,10 +9,10 @@
 use Prim.Native.Nat.{ℕ, zero, suc, _≤_, _<_, min, max}
 use mathlib.Core.Path.{_≡_, refl, sym, ap, _∙_, subst}
 use mathlib.Core.Bool.{Bool, true, false, _&&_, false≢true, true≢false}
-use mathlib.Core.Logic.{_⊎_, inl, inr}
+use mathlib.Core.Logic.{_↔_, _⊎_, inl, inr}
 use mathlib.Core.Option.{Option, none, some}
 use native.Mathlib.Omega.{arith}
-use native.Mathlib.Nat.{eq-or-lt-of-le, le-of-suc-le-suc, le-refl, le-trans, min-le-left, min-le-right, le-max-left, le-max-right, min-eq-left, min-eq-right, max-eq-left, max-eq-right, le-of-lt, lt-of-not-le, le-antisymm}
+use native.Mathlib.Nat.{eq-or-lt-of-le, le-of-suc-le-suc, le-refl, min-le-right, le-max-right, min-eq-left, min-eq-right, max-eq-left, max-eq-right, le-of-lt, lt-of-not-le, le-antisymm}
 use native.Mathlib.Decide.{decLe}
 
 le-of-not-lt : (m n : ℕ) → ¬ (n < m) → m ≤ n
@@ -110,13 +110,16 @@ unfoldable pub allBelow : (ℕ → Bool) → ℕ → Bool
 allBelow p zero = true
 allBelow p (suc k) = allBelow p k && p k
 
-pub both-true : (a b : Bool) → a && b ≡ true → (a ≡ true) × (b ≡ true)
-both-true true b e = (refl, e)
-both-true false b e = absurd (false≢true e)
+pub both-true : (a b : Bool) → (a && b ≡ true) ↔ ((a ≡ true) × (b ≡ true))
+both-true true b = (λ e. (refl, e), λ t. t .1)
+both-true false b = (λ e. absurd (false≢true e), λ t. t .0)
 
-pub all-below : (p : ℕ → Bool) (k : ℕ) → allBelow p k ≡ true → (n : ℕ) → n < k → p n ≡ true
+pub all-below : (p : ℕ → Bool) (k : ℕ) → (allBelow p k ≡ true) ↔ ((n : ℕ) → n < k → p n ≡ true)
 unfolding allBelow
-all-below p zero e n lt = absurd (omega (arith, lt))
-all-below p (suc k) e n lt =
-    let t = both-true (allBelow p k) (p k) e in
-    below-suc {S = λ m. p m ≡ true} (all-below p k (t .0)) (t .1) n lt
+all-below p zero = (λ e n lt. absurd (omega (arith, lt)), λ all. refl)
+all-below p (suc k) =
+    let both = both-true (allBelow p k) (p k) in
+    let rest = all-below p k in (
+      λ e. below-suc {S = λ m. p m ≡ true} (rest .0 (both .0 e .0)) (both .0 e .1),
+      λ all. both .1 (rest .1 (λ n lt. all n (omega arith)), all k (omega arith)),
+    )

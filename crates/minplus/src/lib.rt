@@ -1,1 +1,1 @@
-// No code.
+// This crate has definitions and theorems only: read specs/.
