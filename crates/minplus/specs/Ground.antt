@@ -8,6 +8,7 @@
 use Prim.Native.Nat.{ℕ, suc, zero, _+_, _<_}
 use lib.Dec.{lit<, lit≤}
 use lib.ListN.{getD, length, replicate}
+use mathlib.Core.Bool.{Bool, false, true}
 use mathlib.Core.List.{List, [], _∷_, map}
 use mathlib.Core.Path.{_≡_, ap, refl, sym, _∙_}
 use native.Mathlib.Nat.{le-of-suc-le-suc, not-suc-le-zero}
@@ -24,18 +25,21 @@ data Question : Type 0 where
   horizonOf : Claim → Question
   verdictOf : Claim → Question
   recorded : Claim → Question
+  formed : Curve → Question
 
 data Answer : Type 0 where
   number : ℕ → Answer
   judged : Verdict → Answer
   fields : (code tick left right : ℕ) → Answer
+  truth : Bool → Answer
 
 answer : Question → Answer
-unfolding value horizon verdict recordOf
+unfolding value horizon verdict recordOf wellFormed
 answer (valueOf f n) = number (value f n)
 answer (horizonOf c) = number (horizon c)
 answer (verdictOf c) = judged (verdict c)
 answer (recorded c) = let r = recordOf (verdict c) in fields (r .code) (r .tick) (r .left) (r .right)
+answer (formed f) = truth (wellFormed f)
 
 record Row : Type 0 where
   asked : Question
@@ -148,6 +152,16 @@ table =
     -- a curve that falls at its seam
     ∷ valueOf seam 2 is number 1
     ∷ verdictOf (equals sum seam seam (curve 0 2 2 (0 ∷ 20 ∷ []))) is judged accepted
+    -- the limits of a curve, each at its edge and one beyond; the last listed value is looked at too, the seam is not
+    ∷ formed (flat 0 256 1_000_000) is truth true
+    ∷ formed (flat 1 256 0) is truth false
+    ∷ formed (flat 1 0 0) is truth false
+    ∷ formed (flat 0 1 1_000_001) is truth false
+    ∷ formed (curve 0 1 1_000_000 (0 ∷ [])) is truth true
+    ∷ formed (curve 0 1 1_000_001 (0 ∷ [])) is truth false
+    ∷ formed (curve 0 1 0 (0 ∷ 0 ∷ [])) is truth false
+    ∷ formed (curve 1 2 0 (0 ∷ 5 ∷ 4 ∷ [])) is truth false
+    ∷ formed seam is truth true
     ∷ []
 
 ground : map (λ r. answer (r .asked)) table ≡ map (λ r. r .answered) table
