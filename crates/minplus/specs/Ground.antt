@@ -12,7 +12,7 @@ use mathlib.Core.Bool.{Bool, false, true}
 use mathlib.Core.List.{List, [], _∷_, map}
 use mathlib.Core.Path.{_≡_, ap, refl, sym, _∙_}
 use native.Mathlib.Nat.{le-of-suc-le-suc, not-suc-le-zero}
-use Rattle.minplus.specs.Claim.{Claim, Claimed, atMost, backlog, bounds, convolution, delay, due, equals, exactly, minimum, sum}
+use Rattle.minplus.specs.Claim.{Claim, Claimed, atMost, backlog, bounds, convolution, delay, due, equals, exactly, kindNumber, kindOf, minimum, sum}
 use Rattle.minplus.specs.Conv.{conv}
 use Rattle.minplus.specs.Curve.{Curve, WellFormed, value, well-formed, wellFormed}
 use Rattle.minplus.specs.Exact.{accepted-exactly}
@@ -25,6 +25,7 @@ data Question : Type 0 where
   horizonOf : Claim → Question
   verdictOf : Claim → Question
   recorded : Claim → Question
+  kindOfClaim : Claim → Question
   formed : Curve → Question
 
 data Answer : Type 0 where
@@ -34,11 +35,12 @@ data Answer : Type 0 where
   truth : Bool → Answer
 
 answer : Question → Answer
-unfolding value horizon verdict recordOf wellFormed
+unfolding value horizon verdict recordOf kindNumber kindOf wellFormed
 answer (valueOf f n) = number (value f n)
 answer (horizonOf c) = number (horizon c)
 answer (verdictOf c) = judged (verdict c)
 answer (recorded c) = let r = recordOf (verdict c) in fields (r .code) (r .tick) (r .left) (r .right)
+answer (kindOfClaim c) = number (kindNumber (kindOf c))
 answer (formed f) = truth (wellFormed f)
 
 record Row : Type 0 where
@@ -120,6 +122,14 @@ table =
     ∷ verdictOf (bounds backlog exactly A B 5) is judged accepted
     -- W12
     ∷ verdictOf (bounds delay atMost B A 0) is judged refutedByRate
+    -- the numbers of the kinds
+    ∷ kindOfClaim (equals sum A B S) is number 1
+    ∷ kindOfClaim (equals minimum A B S) is number 2
+    ∷ kindOfClaim (equals convolution A B S) is number 3
+    ∷ kindOfClaim (bounds delay atMost A B 0) is number 4
+    ∷ kindOfClaim (bounds delay exactly A B 0) is number 5
+    ∷ kindOfClaim (bounds backlog atMost A B 0) is number 6
+    ∷ kindOfClaim (bounds backlog exactly A B 0) is number 7
     -- one record for each code
     ∷ recorded (bounds delay exactly A B 3) is fields 1 0 0 0
     ∷ recorded (bounds delay atMost A B 2) is fields 2 1 4 2
