@@ -5,19 +5,22 @@
 --     ground-at         the answer of each row by itself; accepted-at: of a row that is accepted
 --     well-formed-A, well-formed-B, well-formed-AB     the theorems' hypotheses can be met: by the curves of W4 and W8
 --     convolution-AB, exact-delay-AB                   so W4 and W8 hold at every tick, without end
-use Prim.Native.Nat.{ℕ, suc, zero, _+_, _<_}
+--     crossed-AB        and Slower, which the laws of N ask, can be met as well
+use Prim.Native.Nat.{ℕ, suc, zero, _+_, _≤_, _<_}
 use lib.Dec.{lit<, lit≤}
 use lib.ListN.{getD, length, replicate}
 use mathlib.Core.Bool.{Bool, false, true}
 use mathlib.Core.List.{List, [], _∷_, map}
 use mathlib.Core.Path.{_≡_, ap, refl, sym, _∙_}
 use native.Mathlib.Nat.{le-of-suc-le-suc, not-suc-le-zero}
+use native.Mathlib.Omega.{arith}
 use Rattle.minplus.specs.Claim.{Claim, Claimed, atMost, backlog, bounds, convolution, delay, due, equals, exactly, kindNumber, kindOf, minimum, sum}
 use Rattle.minplus.specs.Conv.{conv}
 use Rattle.minplus.specs.Curve.{Curve, WellFormed, value, well-formed, wellFormed}
 use Rattle.minplus.specs.Exact.{accepted-exactly}
-use Rattle.minplus.specs.Horizon.{horizon}
+use Rattle.minplus.specs.Horizon.{horizon, minimumN}
 use Rattle.minplus.specs.Meaning.{well-formed-proper}
+use Rattle.minplus.specs.Ranks.{crossed}
 use Rattle.minplus.specs.Verdict.{Verdict, accepted, notJudged, notLeast, recordOf, refutedAt, refutedByRate, verdict}
 
 data Question : Type 0 where
@@ -143,6 +146,8 @@ table =
     -- N at T = 0 with different rates, either curve the slower one: the empty minimum read as 0 would give 6
     ∷ horizonOf (equals convolution (flat 0 1 5) line (flat 0 1 5)) is number 2
     ∷ horizonOf (equals convolution line (flat 0 1 5) (flat 0 1 5)) is number 2
+    -- the last split, u = n, gives the due value here; without it tick 1 would be refuted
+    ∷ verdictOf (equals convolution (flat 0 1 5) line (flat 0 1 5)) is judged accepted
     -- with T+T'+D for the rank, ticks 0 to 3 alone would be compared, and agree
     ∷ verdictOf (equals convolution (curve 1 1 0 (0 ∷ 100 ∷ [])) line line) is judged (refutedAt 101 100 101)
     -- rates 1/2 and 2/3, both 0 in whole numbers
@@ -162,6 +167,11 @@ table =
     -- a curve that falls at its seam
     ∷ valueOf seam 2 is number 1
     ∷ verdictOf (equals sum seam seam (curve 0 2 2 (0 ∷ 20 ∷ []))) is judged accepted
+    -- and with which 0 bounds the delay and 1 does not
+    ∷ verdictOf (bounds delay atMost seam seam 0) is judged accepted
+    ∷ verdictOf (bounds delay atMost seam seam 1) is judged (refutedAt 1 10 1)
+    -- a horizon of some sixteen million: no tick is tried
+    ∷ verdictOf (equals convolution (flat 0 256 0) (flat 0 255 0) (flat 0 253 0)) is judged notJudged
     -- the limits of a curve, each at its edge and one beyond; the last listed value is looked at too, the seam is not
     ∷ formed (flat 0 256 1_000_000) is truth true
     ∷ formed (flat 1 256 0) is truth false
@@ -215,6 +225,11 @@ unfolding table due
 convolution-AB =
     let c : Claim = equals convolution A B convAB in
     accepted-exactly c (well-formed-proper c (well-formed-A, well-formed-B, well-formed-AB)) .0 (accepted-at 5 c (lit< tt) refl) .1
+
+-- where rates differ: the N of W3 is 7, and from there on A is below B
+crossed-AB : (n : ℕ) → 7 ≤ n → value A n ≤ value B n
+unfolding minimumN A B
+crossed-AB n le = crossed A B (well-formed-A .period-positive) (well-formed-B .period-positive) (lit< tt) n le (omega arith) (omega arith)
 
 exact-delay-AB : Claimed (bounds delay exactly A B 3)
 unfolding table
