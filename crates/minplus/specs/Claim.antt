@@ -9,11 +9,16 @@
 --     VerticalDeviation    the trade's definition of the backlog, which kind 7 claims (backlog-exact)
 --     Kind, kindNumber     the seven kinds and their numbers
 --     Claim, kindOf        a claim over its curves, and its kind
---     WellFormedClaim      its curves are well formed and X is within its limit
+--     WellFormedClaim      its curves are well formed and X is within its limit; wellFormedClaim is the same as a test (well-formed-claim)
 --     Claimed              what it says: the table's right column
 use Prim.Native.Nat.{ℕ, _+_, _-_, _≤_, _<_, min}
 use mathlib.Core.Path.{_≡_}
-use Rattle.minplus.specs.Curve.{Curve, WellFormed, value}
+use mathlib.Core.Bool.{Bool, true, _&&_}
+use mathlib.Core.Logic.{_↔_}
+use lib.Dec.{leb}
+use borrow.Author.Tests.{leb-true, le-leb}
+use Rattle.minplus.specs.Search.{both-true}
+use Rattle.minplus.specs.Curve.{Curve, WellFormed, wellFormed, well-formed, value}
 use Rattle.minplus.specs.Conv.{conv}
 
 pub data Operation : Type 0 where
@@ -68,6 +73,12 @@ abbrev pub WellFormedClaim : Claim → Type 0
 WellFormedClaim (equals op f g h) = WellFormed f × WellFormed g × WellFormed h
 WellFormedClaim (bounds δ t f g X) = WellFormed f × WellFormed g × (X ≤ maxX)
 
+-- WellFormedClaim as a test
+unfoldable pub wellFormedClaim : Claim → Bool
+unfolding wellFormed
+wellFormedClaim (equals op f g h) = wellFormed f && wellFormed g && wellFormed h
+wellFormedClaim (bounds δ t f g X) = wellFormed f && wellFormed g && leb X maxX
+
 unfoldable pub kindOf : Claim → Kind
 kindOf (equals op f g h) = result op
 kindOf (bounds δ t f g X) = bound δ t
@@ -77,3 +88,18 @@ abbrev pub Claimed : Claim → Type 0
 Claimed (equals op f g h) = (n : ℕ) → value h n ≡ due op (value f) (value g) n
 Claimed (bounds δ atMost f g X) = Bound δ (value f) (value g) X
 Claimed (bounds δ exactly f g X) = Bound δ (value f) (value g) X × (0 < X → ¬ (Bound δ (value f) (value g) (X - 1)))
+
+pub well-formed-claim : (c : Claim) → (wellFormedClaim c ≡ true) ↔ WellFormedClaim c
+unfolding wellFormedClaim
+well-formed-claim (equals op f g h) =
+    let two = both-true (wellFormed f) (wellFormed g) in
+    let three = both-true _ (wellFormed h) in (
+      λ e. (well-formed f .0 (two .0 (three .0 e .0) .0), well-formed g .0 (two .0 (three .0 e .0) .1), well-formed h .0 (three .0 e .1)),
+      λ w. three .1 (two .1 (well-formed f .1 (w .0), well-formed g .1 (w .1)), well-formed h .1 (w .2)),
+    )
+well-formed-claim (bounds δ t f g X) =
+    let two = both-true (wellFormed f) (wellFormed g) in
+    let three = both-true _ (leb X maxX) in (
+      λ e. (well-formed f .0 (two .0 (three .0 e .0) .0), well-formed g .0 (two .0 (three .0 e .0) .1), leb-true _ _ (three .0 e .1)),
+      λ w. three .1 (two .1 (well-formed f .1 (w .0), well-formed g .1 (w .1)), le-leb _ _ (w .2)),
+    )

@@ -12,13 +12,15 @@
 --     value-gains               from T on it gains c over d; value-repeats: and k*c over k*d
 --     value-only                nothing else has both: the first two sentences above leave one function
 --     value-relisted            what the list holds from T + d on changes no value
+--     period-fits, rank-fits, value-at-most     how large they can be
+--     value-after, value-no-period     the rule with its cases told apart, for code that tells them apart
 use Prim.Native.Nat.{ℕ, suc, _+_, _-_, _*_, _/_, _%_, _≤_, _<_, min}
 use mathlib.Core.Path.{_≡_, sym, ap, _∙_}
 use mathlib.Core.Bool.{Bool, true, _&&_}
 use mathlib.Core.List.{List}
 use mathlib.Core.Logic.{_↔_}
 use native.Mathlib.Omega.{arith}
-use native.Mathlib.Nat.{mod-eq-of-lt, div-eq-of-lt, add-mod-right, add-div-right}
+use native.Mathlib.Nat.{mod-eq-of-lt, div-eq-of-lt, add-mod-right, add-div-right, mod-zero, div-zero, min-eq-right, mod-lt, div-le-self, mul-le-mul}
 use lib.ListN.{length, getD}
 use lib.Dec.{leb, eqb}
 use borrow.Author.Tests.{leb-true, eqb-true, le-leb, eq-eqb}
@@ -110,6 +112,34 @@ pub value-relisted : (f : Curve) → 1 ≤ f .period → (l : List ℕ) → ((n 
     → (n : ℕ) → value (relisted f l) n ≡ value f n
 value-relisted f positive l same =
     value-only f positive (value (relisted f l)) (λ n lt. value-listed (relisted f l) positive n lt ∙ same n lt) (value-gains (relisted f l) positive)
+
+pub value-after : (f : Curve) (n : ℕ) → f .rank ≤ n
+    → value f n ≡ listedAt f (f .rank + (n - f .rank) % f .period) + (n - f .rank) / f .period * f .increment
+unfolding value
+value-after f n le = rw (min-eq-right le)
+
+-- no curve has a period of 0, and the rule still says something
+pub value-no-period : (f : Curve) (n : ℕ) → f .period ≡ 0 → value f n ≡ listedAt f n
+unfolding value
+value-no-period f n e =
+    rw (e, mod-zero (n - f .rank), div-zero (n - f .rank))
+    (let at : min n (f .rank) + (n - f .rank) ≡ n = omega arith in rw at (omega arith))
+
+pub period-fits : {f : Curve} → WellFormed f → f .period ≤ maxListed
+period-fits {f} w = omega (arith, w .count-fits)
+
+pub rank-fits : {f : Curve} → WellFormed f → f .rank < maxListed
+rank-fits {f} w = omega (arith, w .count-fits, w .period-positive)
+
+-- up to tick 4,096 a value fits 32 bits, and so does a sum over a split; up to tick 2,000,000,000 a value fits 64
+pub value-at-most : (f : Curve) → WellFormed f → (n : ℕ) → value f n ≤ maxUnits * suc n
+unfolding value
+value-at-most f w n =
+    let at : ℕ = min n (f .rank) + (n - f .rank) % f .period in
+    let positive : 0 < f .period = w .period-positive in
+    let inside : at < count f = omega (arith, mod-lt (n - f .rank) positive) in
+    let turns : (n - f .rank) / f .period ≤ n = omega (arith, div-le-self (n - f .rank) (f .period)) in
+    omega (arith, w .values-fit at inside, mul-le-mul turns (w .increment-fits))
 
 pub well-formed : (f : Curve) → (wellFormed f ≡ true) ↔ WellFormed f
 unfolding wellFormed

@@ -6,11 +6,12 @@
 --     gcd a b          Euclid's rule: gcd-zero, gcd-step
 --     gcd-left, gcd-right, gcd-greatest     it divides both, and each common divisor divides it
 --     lcm a b          a / gcd a b * b
---     lcm-left, lcm-right, lcm-least        both divide it, and it divides each common multiple; lcm-comm, lcm-positive
-use Prim.Native.Nat.{ℕ, zero, suc, _-_, _*_, _/_, _%_, _<_, _∣_}
+--     lcm-left, lcm-right, lcm-least        both divide it, and it divides each common multiple; lcm-comm
+--     gcd-positive, lcm-positive, lcm-at-most     the bounds that code needs
+use Prim.Native.Nat.{ℕ, zero, suc, _-_, _*_, _/_, _%_, _≤_, _<_, _∣_}
 use mathlib.Core.Path.{_≡_, refl, sym, ap, _∙_, subst}
 use native.Mathlib.Omega.{arith}
-use native.Mathlib.Nat.{mod-lt, dvd-refl, dvd-zero, dvd-mod-iff, dvd-mul-left, dvd-mul-right, dvd-sub, dvd-antisymm, div-mul-cancel, pos-of-dvd-of-pos, dvd-mul-left-of-dvd, div-add-mod', dvd-of-mul-dvd-mul-left, mul-comm, mul-dvd-mul-left, mul-pos, one-mul, eq-zero-of-zero-dvd, mul-dvd-mul-right}
+use native.Mathlib.Nat.{mod-lt, dvd-refl, dvd-zero, dvd-mod-iff, dvd-mul-left, dvd-mul-right, dvd-sub, dvd-antisymm, div-mul-cancel, pos-of-dvd-of-pos, dvd-mul-left-of-dvd, div-add-mod', dvd-of-mul-dvd-mul-left, mul-comm, mul-dvd-mul-left, mul-pos, one-mul, eq-zero-of-zero-dvd, mul-dvd-mul-right, div-le-self, mul-le-mul-right}
 
 -- Euclid's rule with a bound on its steps: the second number falls, so that many steps and one more are enough
 gcdBy : ℕ → ℕ → ℕ → ℕ
@@ -72,6 +73,9 @@ pub gcd-right : (a b : ℕ) → gcd a b ∣ b
 unfolding gcd
 gcd-right a b = divides (suc b) a b (omega arith) .1
 
+pub gcd-positive : (a b : ℕ) → 0 < a → 0 < gcd a b
+gcd-positive a b h = pos-of-dvd-of-pos (gcd-left a b) h
+
 scaled : (m x a b : ℕ) → x ∣ m * a → x ∣ m * b → x ∣ m * gcd a b
 unfolding gcd
 scaled m x a b p q = reached m x (suc b) a b p q
@@ -114,3 +118,7 @@ lcm-least m (suc a) b p q =
 
 pub lcm-positive : (a b : ℕ) → 0 < a → 0 < b → 0 < lcm a b
 lcm-positive a b h i = pos-of-dvd-of-pos (lcm-least (a * b) a b (dvd-mul-right a b) (dvd-mul-left b a)) (mul-pos h i)
+
+pub lcm-at-most : (a b : ℕ) → lcm a b ≤ a * b
+unfolding lcm
+lcm-at-most a b = mul-le-mul-right b (div-le-self a (gcd a b))

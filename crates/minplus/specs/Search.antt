@@ -2,11 +2,12 @@
 -- test passes. Each recurses at its end, as a loop that counts up does. What is used of them is their laws.
 --
 --     best choose h k   what choose keeps of h(0) to h(k), taken in order: never of an empty list
+--     best-next         one more number; best-same: it depends on those numbers alone
 --     least h k         the least of h(0) to h(k): a lower bound of them (least-lower) that is one of them (least-attained)
 --     greatest h k      the greatest of them, likewise (greatest-upper, greatest-attained)
 --     firstBelow p k    the first n < k with p(n), if there is one; IsFirst says so (first-below)
 --     allBelow p k      p(n) for every n < k (all-below)
-use Prim.Native.Nat.{ℕ, zero, suc, _≤_, _<_, min, max}
+use Prim.Native.Nat.{ℕ, zero, suc, _-_, _≤_, _<_, min, max}
 use mathlib.Core.Path.{_≡_, refl, sym, ap, _∙_, subst}
 use mathlib.Core.Bool.{Bool, true, false, _&&_, false≢true, true≢false}
 use mathlib.Core.Logic.{_↔_, _⊎_, inl, inr}
@@ -29,6 +30,17 @@ below-suc {S} {k} all here n lt = go (eq-or-lt-of-le (le-of-suc-le-suc lt))
 unfoldable pub best : (ℕ → ℕ → ℕ) → (ℕ → ℕ) → ℕ → ℕ
 best choose h zero = h zero
 best choose h (suc k) = choose (best choose h k) (h (suc k))
+
+-- one step of a loop that counts up from 1
+pub best-next : (choose : ℕ → ℕ → ℕ) (h : ℕ → ℕ) (k : ℕ) → 1 ≤ k → best choose h k ≡ choose (best choose h (k - 1)) (h k)
+unfolding best
+best-next choose h zero le = absurd (omega (arith, le))
+best-next choose h (suc k) le = let e : suc k - 1 ≡ k = omega arith in rw e
+
+pub best-same : (choose : ℕ → ℕ → ℕ) (h h′ : ℕ → ℕ) (k : ℕ) → ((n : ℕ) → n ≤ k → h n ≡ h′ n) → best choose h k ≡ best choose h′ k
+unfolding best
+best-same choose h h′ zero same = same zero (omega arith)
+best-same choose h h′ (suc k) same = rw (best-same choose h h′ k (λ n le. same n (omega arith)), same (suc k) (omega arith))
 
 module _ (choose : ℕ → ℕ → ℕ) (R : ℕ → ℕ → Type 0) (here : (a : ℕ) → R a a)
     (earlier : (a b x : ℕ) → R a x → R (choose a b) x) (later : (a b : ℕ) → R (choose a b) b) where

@@ -1,0 +1,95 @@
+use Prim.Native.Nat.{ℕ, _+_, max}
+use mathlib.Core.Path.{sym, ap, ap₂, _∙_}
+use native.Mathlib.Omega.{arith}
+use native.Mathlib.Nat.{mul-le-mul}
+use Rattle.minplus.specs.Curve.{period-fits, rank-fits}
+use Rattle.minplus.specs.Divisor.{lcm, lcm-at-most}
+use Rattle.minplus.specs.Horizon.{horizon}
+use Rattle.curve.specs.Held.{curveOf}
+use Rattle.curve.specs.Claimed.{operationOf}
+use Rattle.curve.specs.Reach.{rank-is}
+use borrow.Author.Needs.{needs}
+use Rattle.curve.proofs.horizon.result_horizon.Statement.{statement}
+use Rattle.curve.proofs.horizon.result_horizon.Tie as tie
+use Rattle.curve.proofs.horizon.result_horizon.Reads as reads
+use Rattle.curve.proofs.horizon.result_horizon.Lts as lts
+use Rattle.curve.proofs.divisor.common_multiple.Reads as common-multiple-reads
+use Rattle.curve.proofs.horizon.common_period.Reads as common-period-reads
+use Rattle.curve.proofs.horizon.even_rank.Reads as even-rank-reads
+use Rattle.curve.proofs.horizon.larger.Reads as larger-reads
+use Rattle.curve.proofs.horizon.n_by_rates.Reads as n-by-rates-reads
+
+-- src/horizon.rt:217:23
+even-rank-requires : tie.Need-even-rank-requires
+even-rank-requires c κs = search needs
+
+-- src/horizon.rt:217:51
+n-by-rates-requires : tie.Need-n-by-rates-requires
+n-by-rates-requires c κs = search needs
+
+-- src/horizon.rt:217:9
+larger-requires : tie.Need-larger-requires
+larger-requires c κs = search needs
+
+-- src/horizon.rt:218:29
+cast-larger : tie.Need-cast-larger
+cast-larger c = search needs
+
+-- src/horizon.rt:218:9
+larger-requires-2 : tie.Need-larger-requires-2
+larger-requires-2 c κs = search needs
+
+-- src/horizon.rt:219:28
+common-period-requires : tie.Need-common-period-requires
+common-period-requires c κs = search needs
+
+-- src/horizon.rt:219:49
+cast-common-multiple : tie.Need-cast-common-multiple
+cast-common-multiple c = search needs
+
+-- src/horizon.rt:219:12
+common-multiple-requires : tie.Need-common-multiple-requires
+common-multiple-requires c κs =
+    let d = c .before .common-period .ensures .1 in
+    (d .0, omega (arith, mul-le-mul (d .1) (period-fits (c .before .before .before .before .before .before .before .pre .1 .1))))
+
+-- src/horizon.rt:219:5
+add-result : tie.Need-add-result
+add-result c =
+    let w = c .before .before .before .before .before .before .before .before .pre in
+    omega (
+      arith,
+      c .common-multiple .ensures,
+      lcm-at-most (c .before .before .common-period .result) (c .before .before .before .before .before .before .before .before .args .h .period .0),
+      mul-le-mul (c .before .before .common-period .ensures .1 .1) (period-fits (w .1 .1)),
+      c .before .before .before .larger2 .ensures,
+      c .before .before .before .before .before .larger .ensures,
+      c .before .before .before .before .before .before .n-by-rates .ensures .1,
+      c .before .before .before .before .before .before .before .even-rank .ensures .1,
+      rank-fits (w .1 .1),
+    )
+
+-- src/horizon.rt:213:1
+returns : tie.Need-returns
+unfolding horizon
+returns c =
+    let a = c .before .before .before .before .before .before .before .before .args in
+    let rank = c .before .before .before .before .before .larger .ensures ∙ ap₂ max (c .before .before .before .before .before .before .before .even-rank .ensures .0) (c .before .before .before .before .before .before .n-by-rates .ensures .0)
+    ∙ sym (rank-is (operationOf (a .operation)) (curveOf (a .f)) (curveOf (a .g))) in
+    ap₂ _+_ (c .before .before .before .larger2 .ensures ∙ ap (λ (r : ℕ). max r (a .h .rank .0)) rank)
+    (c .common-multiple .ensures ∙ ap (λ (d : ℕ). lcm d (a .h .period .0)) (c .before .before .common-period .ensures .0))
+
+pub result-horizon-spec : {M : Type 1} → statement M
+result-horizon-spec =
+    tie.close
+    (tie.spec
+    even-rank-requires
+    n-by-rates-requires
+    larger-requires
+    cast-larger
+    larger-requires-2
+    common-period-requires
+    cast-common-multiple
+    common-multiple-requires
+    add-result
+    returns)

@@ -1,0 +1,76 @@
+-- The curve and the claim that the code's values stand for.
+use Prim.Native.Nat.{ℕ, zero, suc, _+_, _≤_, _<_, min}
+use mathlib.Core.Path.{_≡_, sym, ap, _∙_}
+use mathlib.Core.List.{List, _∷_}
+use native.Mathlib.Omega.{arith}
+use mathlib.Core.Logic.{inl, inr}
+use native.Mathlib.Nat.{eq-or-lt-of-le}
+use lib.ListN.{take, getD, length}
+use lib.Seq.{ext-getD, getD-take, length-take-le}
+use Rattle.minplus.specs.Curve as C
+use Rattle.curve.specs.declared.Curve.{Curve}
+use Rattle.curve.specs.Filled.{filled, filled-length, filled-at}
+
+abbrev pub heldOf : ℕ → ℕ → ℕ → List ℕ → C.Curve
+heldOf rank period increment listed = record { rank = rank; period = period; increment = increment; listed = take (rank + period) listed }
+
+abbrev pub curveOf : Curve → C.Curve
+curveOf f = heldOf (f .rank .0) (f .period .0) (f .increment) (f .listed)
+
+-- a list in the working array: as much of it as there is room for
+abbrev pub padded : List ℕ → List ℕ
+padded l = filled (λ n. getD l n 0) C.maxListed (min (length l) C.maxListed)
+
+-- ---- laws
+
+-- what is put in is what is held
+module _ (rank period increment : ℕ) (listed : List ℕ) (whole : length listed ≡ rank + period) (fits : rank + period ≤ C.maxListed) where
+  held-whole : heldOf rank period increment (padded listed) ≡ record { rank = rank; period = period; increment = increment; listed = listed }
+  held-whole =
+      let stored : min (length listed) C.maxListed ≡ rank + period = omega arith in
+      let F : ℕ → ℕ = λ n. getD listed n 0 in
+      let room : length (padded listed) ≡ C.maxListed = filled-length F C.maxListed (min (length listed) C.maxListed) (omega arith) in
+      let taken : length (take (rank + period) (padded listed)) ≡ rank + period = length-take-le (rank + period) (padded listed) (omega arith) in
+      ap (λ (l : List ℕ). record { rank = rank; period = period; increment = increment; listed = l })
+      (ext-getD 0 (take (rank + period) (padded listed)) listed (taken ∙ sym whole)
+      (λ i lt. getD-take (rank + period) (padded listed) i 0 (omega arith) ∙ filled-at F C.maxListed (min (length listed) C.maxListed) i (omega arith)))
+
+-- what document 01 asks of the first count values. With a 0 before it the first value falls below nothing
+pub record Listed (l : List ℕ) (count : ℕ) : Type 0 where
+  pub fit : (n : ℕ) → n < count → getD l n 0 ≤ C.maxUnits
+  pub rise : (n : ℕ) → n < count → getD (0 ∷ l) n 0 ≤ getD l n 0
+
+pub listed-none : (l : List ℕ) → Listed l 0
+listed-none l = record { fit = λ n lt. absurd (omega (arith, lt)); rise = λ n lt. absurd (omega (arith, lt)) }
+
+pub listed-more : {l : List ℕ} {n : ℕ} → Listed l n → getD l n 0 ≤ C.maxUnits → getD (0 ∷ l) n 0 ≤ getD l n 0 → Listed l (n + 1)
+listed-more {l} {n} so-far fits rises = record {
+  fit = λ m lt. elim (eq-or-lt-of-le (last lt)) [ inl e ↦ rw e fits | inr less ↦ so-far .fit m less ];
+  rise = λ m lt. elim (eq-or-lt-of-le (last lt)) [ inl e ↦ rw e rises | inr less ↦ so-far .rise m less ];
+}
+  where
+    last : {m : ℕ} → m < n + 1 → m ≤ n
+    last lt = omega arith
+
+-- of the working array, exactly the values that count have to be listed well
+module _ (rank period increment : ℕ) (l : List ℕ) where
+  taken : (n : ℕ) → n < rank + period → getD (take (rank + period) l) n 0 ≡ getD l n 0
+  taken n lt = getD-take (rank + period) l n 0 lt
+
+  pub held-listed : C.WellFormed (heldOf rank period increment l) → Listed l (rank + period)
+  held-listed w = record { fit = λ n lt. rw (← taken n lt) (w .values-fit n lt); rise = rises }
+    where
+      rises : (n : ℕ) → n < rank + period → getD (0 ∷ l) n 0 ≤ getD l n 0
+      rises zero lt = omega arith
+      rises (suc n) lt = rw (← taken n (omega arith), ← taken (suc n) lt) (w .never-falls n (omega arith))
+
+  pub listed-held : 1 ≤ period → rank + period ≤ C.maxListed → C.maxListed ≤ length l → increment ≤ C.maxUnits → Listed l (rank + period)
+      → C.WellFormed (heldOf rank period increment l)
+  listed-held positive fits room small listed = record {
+    period-positive = positive;
+    count-fits = fits;
+    listed-whole = length-take-le (rank + period) l (omega arith);
+    increment-fits = small;
+    values-fit = λ n lt. rw (taken n lt) (listed .fit n lt);
+    never-falls = λ n lt. rw (taken n (omega arith), taken (suc n) (omega arith)) (listed .rise (suc n) (omega arith));
+  }

@@ -1,0 +1,80 @@
+// Curves and claims as values, and what everything above asks of them: a value at a tick, a table of values, the horizon.
+ghost use mathlib.Core.Path.{_≡_};
+ghost use Prim.Native.Nat.{ℕ, _+_, _<_, _≤_};
+ghost use Rattle.curve.specs.Held.{padded};
+
+mod divisor;
+mod form;
+pub mod horizon;
+pub mod values;
+
+// A count of ticks. A count of units can't be passed for it.
+pub struct Ticks(pub u32);
+
+// A count of data units. A value at any tick that `Ticks` holds fits.
+pub struct Units(pub u64);
+
+// The working copy of a curve, with room for 256 values whatever its rank. What is held from T + d on counts for nothing.
+pub struct Curve {
+    pub rank: Ticks,
+    pub period: Ticks,
+    pub increment: u32,
+    pub listed: [u32; Curve::MAX_LISTED],
+}
+
+impl Curve {
+    pub const MAX_LISTED: usize = 256;
+
+    pub const MAX_UNITS: u32 = 1_000_000;
+
+    // Values past the 256th are not held: no curve has them.
+    pub fn new(rank: Ticks, period: Ticks, increment: u32, values: &[u32]) -> Curve
+        ensures { λ r. ⌜ r ≡ record { rank = rank; period = period; increment = increment; listed = padded (now (values .entry)) } ⌝ }
+    {
+        let mut listed = [0u32; Curve::MAX_LISTED];
+        let mut count = values.len();
+        if Curve::MAX_LISTED < count {
+            count = Curve::MAX_LISTED;
+        }
+        let mut n: usize = 0;
+        while n < count {
+            listed[n] = values[n];
+            n += 1;
+        }
+        Curve {
+            rank,
+            period,
+            increment,
+            listed,
+        }
+    }
+}
+
+// Kinds 1 to 3: what the claimed curve is said to be.
+pub enum Operation {
+    Sum,
+    Minimum,
+    Convolution,
+}
+
+// Kinds 4 to 7: X, a delay in ticks or a backlog in units.
+pub enum Deviation {
+    Delay(Ticks),
+    Backlog(Units),
+}
+
+// What is said of the left, the right and, for kinds 1 to 3, the claimed curve.
+pub enum Claim {
+    Equals(Operation),
+    AtMost(Deviation),
+    Exactly(Deviation),
+}
+
+impl Claim {
+    pub const MAX_X: u32 = 1_000_000_000;
+
+    pub const MAX_HORIZON: usize = 4_096;
+}
+
+// A curve's values at the ticks 0 to 4,096. Up to there a value, and a sum over a split, fits 32 bits.
+pub type Table = [u32; Claim::MAX_HORIZON + 1];

@@ -1,0 +1,72 @@
+// A curve's value at a tick, and the table of its first values.
+ghost use mathlib.Core.Path.{_≡_};
+ghost use Prim.Native.Nat.{ℕ, _+_, _<_, _≤_, _^_, min};
+ghost use Rattle.minplus.specs.Curve.{value};
+ghost use lib.ListN.{getD, take};
+ghost use Rattle.curve.specs.Held.{heldOf, curveOf};
+ghost use Rattle.curve.specs.Table.{tableOf, largest};
+use crate::Claim;
+use crate::Curve;
+use crate::Table;
+use crate::Ticks;
+use crate::Units;
+
+// A value that is listed, of the first `count`; 0 where there is none.
+fn listed_at(listed: &[u32], count: u64, at: u64) -> u64
+    ensures { λ r. ⌜ r ≡ getD (take count (now (listed .entry))) at 0 ⌝ }
+    ensures { λ r. ⌜ r < 2 ^ 32 ⌝ }
+{
+    if at < count {
+        if at < listed.len() as u64 {
+            return listed[at as usize] as u64;
+        }
+    }
+    0
+}
+
+// The array is lent, so that no call copies it. A period of 0 is no curve's, and has the definition's value all the same.
+pub fn value_at(rank: Ticks, period: Ticks, increment: u32, listed: &[u32], tick: Ticks) -> Units
+    ensures { λ r. ⌜ r .0 ≡ value (heldOf (rank .0) (period .0) increment (now (listed .entry))) (tick .0) ⌝ }
+{
+    let t = rank.0 as u64;
+    let d = period.0 as u64;
+    let n = tick.0 as u64;
+    if d == 0 {
+        return Units(listed_at(listed, t + d, n));
+    }
+    if n < t + d {
+        return Units(listed_at(listed, t + d, n));
+    }
+    let since = n - t;
+    let listed = listed_at(listed, t + d, t + since % d);
+    Units(listed + since / d * increment as u64)
+}
+
+// A value that needs more than 32 bits stands as their largest number; no well-formed curve has one up to tick 4,096.
+fn narrow(x: u64) -> u32
+    ensures { λ r. ⌜ r ≡ min x largest ⌝ }
+{
+    if x < 4_294_967_295 {
+        x as u32
+    } else {
+        4_294_967_295
+    }
+}
+
+// The values at the first `count` ticks.
+pub fn table(f: Curve, count: usize) -> Table
+    ensures { λ r. ⌜ r ≡ tableOf (curveOf f) count ⌝ }
+{
+    let mut values = [0u32; Claim::MAX_HORIZON + 1];
+    let mut end = count;
+    if Claim::MAX_HORIZON + 1 < count {
+        end = Claim::MAX_HORIZON + 1;
+    }
+    let mut n: usize = 0;
+    while n < end {
+        let value = value_at(f.rank, f.period, f.increment, &f.listed, Ticks(n as u32));
+        values[n] = narrow(value.0);
+        n += 1;
+    }
+    values
+}
