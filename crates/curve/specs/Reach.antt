@@ -3,7 +3,7 @@
 --     choice greatest           the greater or the lesser of two numbers
 --     signedOf                  a struct of two numbers as a signed number
 --     raisedAt, begunAt         the numbers that an extreme is taken of, and what A is increased by
---     Extent, Small, Ready      what is known where it is computed, so that products fit
+--     Extent, Small, Ready, Crossable      what is known where it is computed, so that products fit
 --     evenRank, crossingN       the rank with equal rates, and N where f is the slower curve
 --     rank-is                   R is the greater of the two
 --     horizonAnswer             the answer: no horizon for a claim that is not well formed
@@ -20,7 +20,7 @@ use Rattle.minplus.specs.Curve as C
 use Rattle.minplus.specs.Divisor.{lcm, lcm-comm}
 use Rattle.minplus.specs.Claim as M
 use Rattle.minplus.specs.Horizon as H
-use Rattle.curve.specs.declared.horizon.Signed.{Signed}
+use Rattle.curve.specs.declared.crossing.Signed.{Signed}
 use Rattle.curve.specs.declared.horizon.Horizon.{Horizon}
 use Rattle.curve.specs.declared.horizon.Horizon.the-variants.{At, IllFormed}
 use Rattle.curve.specs.Held.{heldOf}
@@ -66,6 +66,12 @@ pub record Ready (f g : C.Curve) : Type 0 where
   pub right : C.WellFormed g
   pub slower : f .increment * g .period < g .increment * f .period
 
+-- and A and B are within bounds
+pub record Crossable (f g : C.Curve) (a b : Signed) : Type 0 where
+  pub ready : Ready f g
+  pub a-small : Small (large + large) a
+  pub b-small : Small (large + large) b
+
 unfoldable pub evenRank : M.Operation → C.Curve → C.Curve → ℕ
 unfolding H.commonPeriod
 evenRank M.sum f g = max (f .rank) (g .rank)
@@ -105,6 +111,23 @@ extreme-held choose rank period increment l d c start count positive some inside
     (best-same choose _ _ (count - 1) (λ i le.
     ap (λ (v : ℕ). d * v + c * (count - i))
     (C.value-listed (heldOf rank period increment l) positive (start + i) (omega arith) ∙ getD-take (rank + period) l (start + i) 0 (omega arith))))
+
+-- what is computed of A and B stays far below 2^64
+module _ {f g : C.Curve} {a b : Signed} (at : Crossable f g a b) where
+  d-fits : f .period ≤ C.maxListed
+  d-fits = C.period-fits (at .ready .left)
+
+  e-fits : g .period ≤ C.maxListed
+  e-fits = C.period-fits (at .ready .right)
+
+  pub above-fits : g .period * a .plus + f .period * b .minus ≤ far - large
+  above-fits = omega (arith, mul-le-mul e-fits (at .a-small .plus-fits), mul-le-mul d-fits (at .b-small .minus-fits))
+
+  pub below-fits : f .period * b .plus + g .period * a .minus ≤ far - large
+  below-fits = omega (arith, mul-le-mul d-fits (at .b-small .plus-fits), mul-le-mul e-fits (at .a-small .minus-fits))
+
+  pub faster-fits : g .increment * f .period + f .increment * g .period ≤ large
+  faster-fits = omega (arith, mul-le-mul (at .ready .right .increment-fits) d-fits, mul-le-mul (at .ready .left .increment-fits) e-fits)
 
 -- the three ways in which two rates can stand
 module _ (f g : C.Curve) (equal : ℕ) (N : C.Curve → C.Curve → ℕ) where

@@ -3,6 +3,7 @@ ghost use mathlib.Core.Path.{_≡_};
 ghost use Prim.Native.Nat.{ℕ, _+_, _<_, _≤_};
 ghost use Rattle.curve.specs.Held.{padded};
 
+mod crossing;
 mod divisor;
 mod form;
 pub mod horizon;

@@ -8,8 +8,6 @@ use denote.Ref.{now}
 use Rattle.curve.specs.Filled.{filled, filled-none, filled-more}
 use Rattle.curve.proofs.Curve.new.Statement.{statement}
 use Rattle.curve.proofs.Curve.new.Tie as tie
-use Rattle.curve.proofs.Curve.new.Reads as reads
-use Rattle.curve.proofs.Curve.new.Lts as lts
 
 abbrev Inv-loop : tie.InvT-loop
 Inv-loop rank period increment values listed₀ count n₀ listed n =
@@ -18,45 +16,36 @@ Inv-loop rank period increment values listed₀ count n₀ listed n =
 abbrev μ-loop : tie.MeasureT-loop
 μ-loop rank period increment values listed₀ count n₀ listed n = count - n
 
--- src/lib.rt:39:9
 loop-holds : tie.Need-loop-holds Inv-loop μ-loop
 loop-holds c = (
   omega arith,
   (⊎-elim (λ w. omega arith) (λ w. omega arith) (c .if1 .came), sym (filled-none (λ i. getD (now (c .before .args .values)) i 0) 256)),
 )
 
--- src/lib.rt:40:25
 mul-listed : tie.Need-mul-listed Inv-loop μ-loop
 mul-listed c = omega arith
 
--- src/lib.rt:40:25
 shared-slice-read-listed : tie.Need-shared-slice-read-listed Inv-loop μ-loop
 shared-slice-read-listed c = omega arith
 
--- src/lib.rt:40:13
 mul-listed-2 : tie.Need-mul-listed-2 Inv-loop μ-loop
 mul-listed-2 c = omega arith
 
--- src/lib.rt:40:13
 array-write-listed : tie.Need-array-write-listed Inv-loop μ-loop
 array-write-listed c = omega arith
 
--- src/lib.rt:41:13
 add-n : tie.Need-add-n Inv-loop μ-loop
 add-n c = omega arith
 
--- src/lib.rt:39:9
 loop-less : tie.Need-loop-less Inv-loop μ-loop
 loop-less c = omega arith
 
--- src/lib.rt:39:9
 loop-again : tie.Need-loop-again Inv-loop μ-loop
 loop-again c =
     let now-at = c .before .before .loop in
     let F : ℕ → ℕ = λ i. getD (now (c .before .before .before .before .args .values)) i 0 in
     (omega arith, (now-at .inv .1 .0, rw (now-at .inv .1 .1) (filled-more F 256 (now-at .n) (omega arith))))
 
--- src/lib.rt:30:5
 returns : tie.Need-returns Inv-loop μ-loop
 returns c =
     let a = c .before .before .before .args in

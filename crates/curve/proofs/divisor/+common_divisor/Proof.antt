@@ -31,14 +31,12 @@ common-divisor-below t =
     (falls 0 common-divisor-kinds.ps _<_ μ-common-divisor t)
     common-divisor.Pre
 
--- src/divisor.rt:9:46
 common-divisor-rem-common-divisor : (t : ℕ) → common-divisor-lts.Need-rem-common-divisor (
   common-divisor-below t,
   common-divisor.Post,
 ) (common-divisor-at t) common-divisor.Post
 common-divisor-rem-common-divisor t c = search needs
 
--- src/divisor.rt:9:28
 common-divisor-common-divisor-requires : (t : ℕ) → common-divisor-lts.Need-common-divisor-requires (
   common-divisor-below t,
   common-divisor.Post,
@@ -47,14 +45,12 @@ common-divisor-common-divisor-requires t c κs =
     let positive : 0 < c .before .args .b = omega arith in
     (omega (arith, c .before .pre .0, mod-lt (c .before .args .a) positive), tt)
 
--- src/divisor.rt:6:1
 common-divisor-returns : (t : ℕ) → common-divisor-lts.Need-returns (
   common-divisor-below t,
   common-divisor.Post,
 ) (common-divisor-at t) common-divisor.Post
 common-divisor-returns t c = rw (c .if1 .taken) (sym (gcd-zero (c .before .args .a)))
 
--- src/divisor.rt:6:1
 common-divisor-returns-2 : (t : ℕ) → common-divisor-lts.Need-returns-2 (
   common-divisor-below t,
   common-divisor.Post,

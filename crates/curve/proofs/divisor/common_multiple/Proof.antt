@@ -3,25 +3,18 @@ use Rattle.minplus.specs.Divisor.{lcm, gcd-positive, lcm-at-most}
 use borrow.Author.Needs.{needs}
 use Rattle.curve.proofs.divisor.common_multiple.Statement.{statement}
 use Rattle.curve.proofs.divisor.common_multiple.Tie as tie
-use Rattle.curve.proofs.divisor.common_multiple.Reads as reads
-use Rattle.curve.proofs.divisor.common_multiple.Lts as lts
-use Rattle.curve.proofs.divisor.common_divisor.Reads as common-divisor-reads
 
--- src/divisor.rt:17:9
 common-divisor-requires : tie.Need-common-divisor-requires
 common-divisor-requires c κs = search needs
 
--- src/divisor.rt:17:5
 div-result : tie.Need-div-result
 div-result c = rw (c .common-divisor .ensures) (gcd-positive (c .before .args .a) (c .before .args .b) (c .before .pre .0))
 
--- src/divisor.rt:17:5
 mul-result : tie.Need-mul-result
 unfolding lcm
 mul-result c =
     record { fits = rw (c .common-divisor .ensures) (lt-of-le-of-lt (lcm-at-most (c .before .args .a) (c .before .args .b)) (c .before .pre .1)) }
 
--- src/divisor.rt:13:1
 returns : tie.Need-returns
 unfolding lcm
 returns c = rw (c .common-divisor .ensures)

@@ -9,8 +9,6 @@ use Rattle.curve.specs.Held.{Listed, listed-none, listed-more}
 use Rattle.curve.specs.Told.{yes, no}
 use Rattle.curve.proofs.form.listed_well.Statement.{statement}
 use Rattle.curve.proofs.form.listed_well.Tie as tie
-use Rattle.curve.proofs.form.listed_well.Reads as reads
-use Rattle.curve.proofs.form.listed_well.Lts as lts
 
 abbrev Inv-loop : tie.InvT-loop
 Inv-loop listed count before₀ n₀ before n =
@@ -19,57 +17,44 @@ Inv-loop listed count before₀ n₀ before n =
 abbrev μ-loop : tie.MeasureT-loop
 μ-loop listed count before₀ n₀ before n = count - n
 
--- src/form.rt:21:5
 loop-holds : tie.Need-loop-holds Inv-loop μ-loop
 loop-holds c = (omega arith, (listed-none (now (c .args .listed)), refl))
 
--- src/form.rt:22:31
 mul-if1 : tie.Need-mul-if1 Inv-loop μ-loop
 mul-if1 c = omega arith
 
--- src/form.rt:22:31
 shared-slice-read-if1 : tie.Need-shared-slice-read-if1 Inv-loop μ-loop
 shared-slice-read-if1 c = omega arith
 
--- src/form.rt:23:13
 returns : tie.Need-returns Inv-loop μ-loop
 returns c = no (λ w. let n = c .before .before .before .loop .n in absurd (omega (arith, w .fit n (omega arith))))
 
--- src/form.rt:25:12
 mul-if2 : tie.Need-mul-if2 Inv-loop μ-loop
 mul-if2 c = omega arith
 
--- src/form.rt:25:12
 shared-slice-read-if2 : tie.Need-shared-slice-read-if2 Inv-loop μ-loop
 shared-slice-read-if2 c = omega arith
 
--- src/form.rt:26:13
 returns-2 : tie.Need-returns-2 Inv-loop μ-loop
 returns-2 c = no (λ w. let n = c .before .before .before .before .before .loop .n in absurd (omega (arith, w .rise n (omega arith))))
 
--- src/form.rt:28:18
 mul-before : tie.Need-mul-before Inv-loop μ-loop
 mul-before c = omega arith
 
--- src/form.rt:28:18
 shared-slice-read-before : tie.Need-shared-slice-read-before Inv-loop μ-loop
 shared-slice-read-before c = omega arith
 
--- src/form.rt:29:9
 add-n : tie.Need-add-n Inv-loop μ-loop
 add-n c = omega arith
 
--- src/form.rt:21:5
 loop-less : tie.Need-loop-less Inv-loop μ-loop
 loop-less c = omega arith
 
--- src/form.rt:21:5
 loop-again : tie.Need-loop-again Inv-loop μ-loop
 loop-again c =
     let now-at = c .before .before .before .before .before .before .loop in
     (omega arith, (listed-more (now-at .inv .1 .0) (omega arith) (omega arith), rw (add-one (now-at .n))))
 
--- src/form.rt:15:1
 returns-3 : tie.Need-returns-3 Inv-loop μ-loop
 returns-3 c =
     let e : c .before .loop .n ≡ c .before .before .args .count = omega arith in

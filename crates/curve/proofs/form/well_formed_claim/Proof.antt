@@ -4,66 +4,49 @@ use Rattle.curve.specs.Told.{no, told-yes, told-no, told-map}
 use borrow.Author.Needs.{needs}
 use Rattle.curve.proofs.form.well_formed_claim.Statement.{statement}
 use Rattle.curve.proofs.form.well_formed_claim.Tie as tie
-use Rattle.curve.proofs.form.well_formed_claim.Reads as reads
-use Rattle.curve.proofs.form.well_formed_claim.Lts as lts
-use Rattle.curve.proofs.form.well_formed.Reads as well-formed-reads
-use Rattle.curve.proofs.form.within.Reads as within-reads
 
--- src/form.rt:63:9
 well-formed-requires : tie.Need-well-formed-requires
 well-formed-requires c κs = search needs
 
--- src/form.rt:64:9
 returns : tie.Need-returns
 returns c = no (λ w. told-no (c .before .well-formed .ensures) (not-true _ (c .if1 .taken)) (two-well (c .before .before .args .claim) (c .before .before .args .f) (c .before .before .args .g) (c .before .before .args .h) w .0))
 
--- src/form.rt:66:9
 well-formed-requires-2 : tie.Need-well-formed-requires-2
 well-formed-requires-2 c κs = search needs
 
--- src/form.rt:67:9
 returns-2 : tie.Need-returns-2
 returns-2 c = no (λ w. told-no (c .before .well-formed2 .ensures) (not-true _ (c .if2 .taken)) (two-well (c .before .before .before .before .args .claim) (c .before .before .before .before .args .f) (c .before .before .before .before .args .g) (c .before .before .before .before .args .h) w .1))
 
--- src/form.rt:70:29
 enum-told : tie.Need-enum-told
 enum-told c = search needs
 
--- src/form.rt:70:29
 well-formed-requires-3 : tie.Need-well-formed-requires-3
 well-formed-requires-3 c κs = search needs
 
--- src/form.rt:71:23
 enum-known-claim : tie.Need-enum-known-claim
 enum-known-claim c = search needs
 
--- src/form.rt:71:37
 within-requires : tie.Need-within-requires
 within-requires c κs = search needs
 
--- src/form.rt:72:24
 enum-known-claim-2 : tie.Need-enum-known-claim-2
 enum-known-claim-2 c = search needs
 
--- src/form.rt:72:38
 within-requires-2 : tie.Need-within-requires-2
 within-requires-2 c κs = search needs
 
--- src/form.rt:60:1
 returns-3 : tie.Need-returns-3
 returns-3 c =
     let left = told-yes (c .before .before .before .before .before .before .well-formed .ensures) (not-false _ (c .before .before .before .before .before .if1 .left)) in
     let right = told-yes (c .before .before .before .before .well-formed2 .ensures) (not-false _ (c .before .before .before .if2 .left)) in
     rw (c .before .enum-told .given .1) (told-map (λ w. (left, right, w)) (λ w. w .2) (c .well-formed3 .ensures))
 
--- src/form.rt:60:1
 returns-4 : tie.Need-returns-4
 returns-4 c =
     let left = told-yes (c .before .before .before .before .before .before .before .well-formed .ensures) (not-false _ (c .before .before .before .before .before .before .if1 .left)) in
     let right = told-yes (c .before .before .before .before .before .well-formed2 .ensures) (not-false _ (c .before .before .before .before .if2 .left)) in
     rw (c .before .before .claim .given .1) (told-map (λ le. (left, right, le)) (λ w. w .2) (c .within .ensures))
 
--- src/form.rt:60:1
 returns-5 : tie.Need-returns-5
 returns-5 c =
     let left = told-yes (c .before .before .before .before .before .before .before .well-formed .ensures) (not-false _ (c .before .before .before .before .before .before .if1 .left)) in

@@ -3,26 +3,19 @@ use Rattle.curve.specs.Told.{told-leb}
 use borrow.Author.Needs.{needs}
 use Rattle.curve.proofs.form.within.Statement.{statement}
 use Rattle.curve.proofs.form.within.Tie as tie
-use Rattle.curve.proofs.form.within.Reads as reads
-use Rattle.curve.proofs.form.within.Lts as lts
 
--- src/form.rt:54:26
 enum-known-deviation : tie.Need-enum-known-deviation
 enum-known-deviation c = search needs
 
--- src/form.rt:55:28
 enum-known-deviation-2 : tie.Need-enum-known-deviation-2
 enum-known-deviation-2 c = search needs
 
--- src/form.rt:55:41
 cast-result : tie.Need-cast-result
 cast-result c = search needs
 
--- src/form.rt:50:1
 returns : tie.Need-returns
 returns c = rw (c .before .before .deviation .given .1) (told-leb (c .before .before .deviation .given .0 .0 .0) maxX)
 
--- src/form.rt:50:1
 returns-2 : tie.Need-returns-2
 returns-2 c = rw (c .before .before .deviation2 .given .1) (told-leb (c .before .before .deviation2 .given .0 .0 .0) maxX)
 

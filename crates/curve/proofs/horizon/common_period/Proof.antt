@@ -7,25 +7,18 @@ use Rattle.curve.specs.Held.{curveOf}
 use borrow.Author.Needs.{needs}
 use Rattle.curve.proofs.horizon.common_period.Statement.{statement}
 use Rattle.curve.proofs.horizon.common_period.Tie as tie
-use Rattle.curve.proofs.horizon.common_period.Reads as reads
-use Rattle.curve.proofs.horizon.common_period.Lts as lts
-use Rattle.curve.proofs.divisor.common_multiple.Reads as common-multiple-reads
 
--- src/horizon.rt:163:21
 cast-common-multiple : tie.Need-cast-common-multiple
 cast-common-multiple c = search needs
 
--- src/horizon.rt:163:40
 cast-common-multiple-2 : tie.Need-cast-common-multiple-2
 cast-common-multiple-2 c = search needs
 
--- src/horizon.rt:163:5
 common-multiple-requires : tie.Need-common-multiple-requires
 common-multiple-requires c κs =
     let w = c .before .before .pre in
     (w .0 .period-positive, omega (arith, mul-le-mul (period-fits (w .0)) (period-fits (w .1))))
 
--- src/horizon.rt:158:1
 returns : tie.Need-returns
 unfolding commonPeriod
 returns c =

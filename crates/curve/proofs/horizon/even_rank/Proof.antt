@@ -4,82 +4,61 @@ use Rattle.curve.specs.Reach.{evenRank}
 use borrow.Author.Needs.{needs}
 use Rattle.curve.proofs.horizon.even_rank.Statement.{statement}
 use Rattle.curve.proofs.horizon.even_rank.Tie as tie
-use Rattle.curve.proofs.horizon.even_rank.Reads as reads
-use Rattle.curve.proofs.horizon.even_rank.Lts as lts
-use Rattle.curve.proofs.horizon.common_period.Reads as common-period-reads
-use Rattle.curve.proofs.horizon.larger.Reads as larger-reads
 
--- src/horizon.rt:172:34
 enum-told : tie.Need-enum-told
 enum-told c = search needs
 
--- src/horizon.rt:172:34
 cast-larger : tie.Need-cast-larger
 cast-larger c = search needs
 
--- src/horizon.rt:172:51
 cast-larger-2 : tie.Need-cast-larger-2
 cast-larger-2 c = search needs
 
--- src/horizon.rt:172:27
 larger-requires : tie.Need-larger-requires
 larger-requires c κs = search needs
 
--- src/horizon.rt:173:38
 enum-told-2 : tie.Need-enum-told-2
 enum-told-2 c = search needs
 
--- src/horizon.rt:173:38
 cast-larger-3 : tie.Need-cast-larger-3
 cast-larger-3 c = search needs
 
--- src/horizon.rt:173:55
 cast-larger-4 : tie.Need-cast-larger-4
 cast-larger-4 c = search needs
 
--- src/horizon.rt:173:31
 larger-requires-2 : tie.Need-larger-requires-2
 larger-requires-2 c κs = search needs
 
--- src/horizon.rt:174:35
 enum-told-3 : tie.Need-enum-told-3
 enum-told-3 c = search needs
 
--- src/horizon.rt:174:35
 cast-result : tie.Need-cast-result
 cast-result c = search needs
 
--- src/horizon.rt:174:53
 cast-result-2 : tie.Need-cast-result-2
 cast-result-2 c = search needs
 
--- src/horizon.rt:174:35
 add-result : tie.Need-add-result
 add-result c = search needs
 
--- src/horizon.rt:174:71
 common-period-requires : tie.Need-common-period-requires
 common-period-requires c κs = search needs
 
--- src/horizon.rt:174:35
 add-result-2 : tie.Need-add-result-2
 add-result-2 c = search needs
 
--- src/horizon.rt:166:1
 returns : tie.Need-returns
 unfolding evenRank
 returns c =
     let w = c .before .before .before .before .before .pre in
     rw (c .before .before .before .enum-told .given .1) (c .larger .ensures, omega (arith, c .larger .ensures, rank-fits (w .0), rank-fits (w .1)))
 
--- src/horizon.rt:166:1
 returns-2 : tie.Need-returns-2
 unfolding evenRank
 returns-2 c =
     let w = c .before .before .before .before .before .pre in
     rw (c .before .before .before .enum-told2 .given .1) (c .larger2 .ensures, omega (arith, c .larger2 .ensures, rank-fits (w .0), rank-fits (w .1)))
 
--- src/horizon.rt:166:1
 returns-3 : tie.Need-returns-3
 unfolding evenRank
 returns-3 c =

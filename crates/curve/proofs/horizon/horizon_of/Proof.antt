@@ -10,60 +10,45 @@ use Rattle.curve.specs.Reach.{horizon-none, horizon-at}
 use borrow.Author.Needs.{needs}
 use Rattle.curve.proofs.horizon.horizon_of.Statement.{statement}
 use Rattle.curve.proofs.horizon.horizon_of.Tie as tie
-use Rattle.curve.proofs.horizon.horizon_of.Reads as reads
-use Rattle.curve.proofs.horizon.horizon_of.Lts as lts
-use Rattle.curve.proofs.form.well_formed_claim.Reads as well-formed-claim-reads
-use Rattle.curve.proofs.horizon.bound_horizon.Reads as bound-horizon-reads
-use Rattle.curve.proofs.horizon.result_horizon.Reads as result-horizon-reads
 
--- src/horizon.rt:233:9
 well-formed-claim-requires : tie.Need-well-formed-claim-requires
 well-formed-claim-requires c κs = search needs
 
--- src/horizon.rt:234:9
 returns : tie.Need-returns
 returns c =
     let k = claimOf (c .before .before .args .claim) (c .before .before .args .f) (c .before .before .args .g) (c .before .before .args .h) in
     sym (horizon-none k (sym (told-test (wellFormedClaim k) (well-formed-claim k) (c .before .well-formed-claim .ensures)) ∙ not-true _ (c .if1 .taken)))
 
--- src/horizon.rt:237:23
 enum-known-claim : tie.Need-enum-known-claim
 enum-known-claim c = search needs
 
--- src/horizon.rt:237:49
 result-horizon-requires : tie.Need-result-horizon-requires
 result-horizon-requires c κs =
     let w = rw (c .before .claim .given .1) at (told-yes (c .before .before .before .before .well-formed-claim .ensures) (not-false _ (c .before .before .before .if1 .left))) in
     (w .0, (w .1, w .2))
 
--- src/horizon.rt:238:41
 enum-told : tie.Need-enum-told
 enum-told c = search needs
 
--- src/horizon.rt:238:41
 bound-horizon-requires : tie.Need-bound-horizon-requires
 bound-horizon-requires c κs =
     let a = c .before .before .before .before .args in
     two-well (a .claim) (a .f) (a .g) (a .h) (told-yes (c .before .before .before .well-formed-claim .ensures) (not-false _ (c .before .before .if1 .left)))
 
--- src/horizon.rt:239:42
 enum-told-2 : tie.Need-enum-told-2
 enum-told-2 c = search needs
 
--- src/horizon.rt:239:42
 bound-horizon-requires-2 : tie.Need-bound-horizon-requires-2
 bound-horizon-requires-2 c κs =
     let a = c .before .before .before .before .args in
     two-well (a .claim) (a .f) (a .g) (a .h) (told-yes (c .before .before .before .well-formed-claim .ensures) (not-false _ (c .before .before .if1 .left)))
 
--- src/horizon.rt:230:1
 returns-2 : tie.Need-returns-2
 returns-2 c =
     let k = claimOf (c .before .before .before .before .before .before .args .claim) (c .before .before .before .before .before .before .args .f) (c .before .before .before .before .before .before .args .g) (c .before .before .before .before .before .before .args .h) in
     let ok : wellFormedClaim k ≡ true = well-formed-claim k .1 (told-yes (c .before .before .before .before .before .well-formed-claim .ensures) (not-false _ (c .before .before .before .before .if1 .left))) in
     ap At (rw (c .before .before .claim .given .1) (c .result-horizon .ensures)) ∙ sym (horizon-at k ok)
 
--- src/horizon.rt:230:1
 returns-3 : tie.Need-returns-3
 unfolding horizon
 returns-3 c =
@@ -71,7 +56,6 @@ returns-3 c =
     let ok : wellFormedClaim k ≡ true = well-formed-claim k .1 (told-yes (c .before .before .before .before .well-formed-claim .ensures) (not-false _ (c .before .before .before .if1 .left))) in
     ap At (rw (c .before .enum-told .given .1) (c .bound-horizon .ensures)) ∙ sym (horizon-at k ok)
 
--- src/horizon.rt:230:1
 returns-4 : tie.Need-returns-4
 unfolding horizon
 returns-4 c =

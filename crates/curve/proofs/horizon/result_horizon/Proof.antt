@@ -11,49 +11,33 @@ use Rattle.curve.specs.Reach.{rank-is}
 use borrow.Author.Needs.{needs}
 use Rattle.curve.proofs.horizon.result_horizon.Statement.{statement}
 use Rattle.curve.proofs.horizon.result_horizon.Tie as tie
-use Rattle.curve.proofs.horizon.result_horizon.Reads as reads
-use Rattle.curve.proofs.horizon.result_horizon.Lts as lts
-use Rattle.curve.proofs.divisor.common_multiple.Reads as common-multiple-reads
-use Rattle.curve.proofs.horizon.common_period.Reads as common-period-reads
-use Rattle.curve.proofs.horizon.even_rank.Reads as even-rank-reads
-use Rattle.curve.proofs.horizon.larger.Reads as larger-reads
-use Rattle.curve.proofs.horizon.n_by_rates.Reads as n-by-rates-reads
 
--- src/horizon.rt:217:23
 even-rank-requires : tie.Need-even-rank-requires
 even-rank-requires c κs = search needs
 
--- src/horizon.rt:217:51
 n-by-rates-requires : tie.Need-n-by-rates-requires
 n-by-rates-requires c κs = search needs
 
--- src/horizon.rt:217:9
 larger-requires : tie.Need-larger-requires
 larger-requires c κs = search needs
 
--- src/horizon.rt:218:29
 cast-larger : tie.Need-cast-larger
 cast-larger c = search needs
 
--- src/horizon.rt:218:9
 larger-requires-2 : tie.Need-larger-requires-2
 larger-requires-2 c κs = search needs
 
--- src/horizon.rt:219:28
 common-period-requires : tie.Need-common-period-requires
 common-period-requires c κs = search needs
 
--- src/horizon.rt:219:49
 cast-common-multiple : tie.Need-cast-common-multiple
 cast-common-multiple c = search needs
 
--- src/horizon.rt:219:12
 common-multiple-requires : tie.Need-common-multiple-requires
 common-multiple-requires c κs =
     let d = c .before .common-period .ensures .1 in
     (d .0, omega (arith, mul-le-mul (d .1) (period-fits (c .before .before .before .before .before .before .before .pre .1 .1))))
 
--- src/horizon.rt:219:5
 add-result : tie.Need-add-result
 add-result c =
     let w = c .before .before .before .before .before .before .before .before .pre in
@@ -69,7 +53,6 @@ add-result c =
       rank-fits (w .1 .1),
     )
 
--- src/horizon.rt:213:1
 returns : tie.Need-returns
 unfolding horizon
 returns c =

@@ -6,35 +6,27 @@ use Rattle.curve.proofs.Laws.{untaken}
 use borrow.Author.Needs.{needs}
 use Rattle.curve.proofs.values.listed_at.Statement.{statement}
 use Rattle.curve.proofs.values.listed_at.Tie as tie
-use Rattle.curve.proofs.values.listed_at.Reads as reads
-use Rattle.curve.proofs.values.listed_at.Lts as lts
 
--- src/values.rt:22:20
 mul-result : tie.Need-mul-result
 mul-result c = search needs
 
--- src/values.rt:22:20
 shared-slice-read-result : tie.Need-shared-slice-read-result
 shared-slice-read-result c = search needs
 
--- src/values.rt:22:20
 cast-result : tie.Need-cast-result
 cast-result c = omega (arith, c .shared-slice-known .given (c .before .before .before .args .at))
 
--- src/values.rt:22:13
 returns : tie.Need-returns
 returns c = (
   sym (getD-take (c .before .before .before .args .count) (now (c .before .before .before .args .listed)) (c .before .before .before .args .at) 0 (c .before .before .if1 .taken)),
   omega (arith, c .shared-slice-known .given (c .before .before .before .args .at)),
 )
 
--- src/values.rt:16:1
 returns-2 : tie.Need-returns-2
 returns-2 c =
     let l = now (c .before .before .args .listed) in
     (sym (untaken l (c .before .before .args .count) (c .before .before .args .at) (omega arith)), omega arith)
 
--- src/values.rt:16:1
 returns-3 : tie.Need-returns-3
 returns-3 c =
     let l = now (c .before .args .listed) in

@@ -8,10 +8,6 @@ use Rattle.curve.specs.Held.{curveOf}
 use Rattle.curve.specs.Table.{cell, largest, tableOf}
 use Rattle.curve.proofs.values.table.Statement.{statement}
 use Rattle.curve.proofs.values.table.Tie as tie
-use Rattle.curve.proofs.values.table.Reads as reads
-use Rattle.curve.proofs.values.table.Lts as lts
-use Rattle.curve.proofs.values.narrow.Reads as narrow-reads
-use Rattle.curve.proofs.values.value_at.Reads as value-at-reads
 
 abbrev Inv-loop : tie.InvT-loop
 Inv-loop count f values₀ end n₀ values n = (n ≤ end) × ((end ≡ min count 4097) × (values ≡ filled (cell (curveOf f)) 4097 n))
@@ -19,50 +15,39 @@ Inv-loop count f values₀ end n₀ values n = (n ≤ end) × ((end ≡ min coun
 abbrev μ-loop : tie.MeasureT-loop
 μ-loop count f values₀ end n₀ values n = end - n
 
--- src/values.rt:59:8
 add-if1 : tie.Need-add-if1 Inv-loop μ-loop
 add-if1 c = search needs
 
--- src/values.rt:60:15
 add-end : tie.Need-add-end Inv-loop μ-loop
 add-end c = search needs
 
--- src/values.rt:63:5
 loop-holds : tie.Need-loop-holds Inv-loop μ-loop
 loop-holds c = (
   omega arith,
   (⊎-elim (λ w. omega arith) (λ w. omega arith) (c .if1 .came), sym (filled-none (cell (curveOf (c .before .args .t1))) 4097)),
 )
 
--- src/values.rt:64:78
 cast-t16 : tie.Need-cast-t16 Inv-loop μ-loop
 cast-t16 c = omega arith
 
--- src/values.rt:64:13
 value-at-requires : tie.Need-value-at-requires Inv-loop μ-loop
 value-at-requires c κs = tt
 
--- src/values.rt:65:21
 narrow-requires : tie.Need-narrow-requires Inv-loop μ-loop
 narrow-requires c κs = tt
 
--- src/values.rt:65:9
 mul-values : tie.Need-mul-values Inv-loop μ-loop
 mul-values c = omega arith
 
--- src/values.rt:65:9
 array-write-values : tie.Need-array-write-values Inv-loop μ-loop
 array-write-values c = omega arith
 
--- src/values.rt:66:9
 add-n : tie.Need-add-n Inv-loop μ-loop
 add-n c = omega arith
 
--- src/values.rt:63:5
 loop-less : tie.Need-loop-less Inv-loop μ-loop
 loop-less c = omega arith
 
--- src/values.rt:63:5
 loop-again : tie.Need-loop-again Inv-loop μ-loop
 loop-again c =
     let now-at = c .before .before .before .before .before .before .before .before .loop in
@@ -70,7 +55,6 @@ loop-again c =
     let stored : c .narrow .result ≡ cell f (now-at .n) = c .narrow .ensures ∙ ap (λ (v : ℕ). min v largest) (c .before .value-at .ensures) in
     (omega arith, (now-at .inv .1 .0, rw (stored, now-at .inv .1 .1) (filled-more (cell f) 4097 (now-at .n) (omega arith))))
 
--- src/values.rt:54:1
 returns : tie.Need-returns Inv-loop μ-loop
 unfolding tableOf
 returns c =

@@ -9,92 +9,70 @@ use Rattle.curve.proofs.Laws.{product-fits}
 use borrow.Author.Needs.{needs}
 use Rattle.curve.proofs.values.value_at.Statement.{statement}
 use Rattle.curve.proofs.values.value_at.Tie as tie
-use Rattle.curve.proofs.values.value_at.Reads as reads
-use Rattle.curve.proofs.values.value_at.Lts as lts
-use Rattle.curve.proofs.values.listed_at.Reads as listed-at-reads
 
--- src/values.rt:32:13
 cast-t : tie.Need-cast-t
 cast-t c = search needs
 
--- src/values.rt:33:13
 cast-d : tie.Need-cast-d
 cast-d c = search needs
 
--- src/values.rt:34:13
 cast-n : tie.Need-cast-n
 cast-n c = search needs
 
--- src/values.rt:36:40
 add-listed-at : tie.Need-add-listed-at
 add-listed-at c = search needs
 
--- src/values.rt:36:22
 listed-at-requires : tie.Need-listed-at-requires
 listed-at-requires c κs = search needs
 
--- src/values.rt:36:9
 returns : tie.Need-returns
 returns c =
     let a = c .before .before .before .before .before .before .args in
     c .listed-at .ensures .0 ∙ sym (value-no-period (heldOf (a .rank .0) (a .period .0) (a .increment) (now (a .listed))) (a .tick .0) (c .before .if1 .taken))
 
--- src/values.rt:38:12
 add-if2 : tie.Need-add-if2
 add-if2 c = search needs
 
--- src/values.rt:39:40
 add-listed-at-2 : tie.Need-add-listed-at-2
 add-listed-at-2 c = search needs
 
--- src/values.rt:39:22
 listed-at-requires-2 : tie.Need-listed-at-requires-2
 listed-at-requires-2 c κs = search needs
 
--- src/values.rt:39:9
 returns-2 : tie.Need-returns-2
 returns-2 c =
     let a = c .before .before .before .before .before .before .before .args in
     c .listed-at2 .ensures .0 ∙ sym (value-listed (heldOf (a .rank .0) (a .period .0) (a .increment) (now (a .listed))) (omega arith) (a .tick .0) (c .before .if2 .taken))
 
--- src/values.rt:41:17
 sub-since : tie.Need-sub-since
 sub-since c = search needs
 
--- src/values.rt:42:36
 add-listed-at-3 : tie.Need-add-listed-at-3
 add-listed-at-3 c = search needs
 
--- src/values.rt:42:47
 rem-listed-at : tie.Need-rem-listed-at
 rem-listed-at c = search needs
 
--- src/values.rt:42:43
 add-listed-at-4 : tie.Need-add-listed-at-4
 add-listed-at-4 c =
     let a = c .before .before .before .before .before .before .args in
     omega (arith, mod-le (a .tick .0 - a .rank .0) (a .period .0))
 
--- src/values.rt:42:9
 listed-at-requires-3 : tie.Need-listed-at-requires-3
 listed-at-requires-3 c κs = search needs
 
--- src/values.rt:43:20
 div-t14 : tie.Need-div-t14
 div-t14 c = search needs
 
--- src/values.rt:43:11
 add-t19 : tie.Need-add-t19
 add-t19 c =
     let a = c .before .before .before .before .before .before .before .args in
     let turns : (a .tick .0 - a .rank .0) / a .period .0 < 2 ^ 32 = omega (arith, div-le-self (a .tick .0 - a .rank .0) (a .period .0)) in
     record { fits = product-fits ((a .tick .0 - a .rank .0) / a .period .0) (a .increment) (c .listed-at3 .result) turns (omega arith) (c .listed-at3 .ensures .1) }
 
--- src/values.rt:43:20
 mul-t17 : tie.Need-mul-t17
 mul-t17 c = omega (arith, add-t19 c)
 
--- src/values.rt:29:1
 returns-3 : tie.Need-returns-3
 returns-3 c =
     let a = c .before .before .before .before .before .before .before .args in

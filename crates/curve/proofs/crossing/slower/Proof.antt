@@ -1,36 +1,27 @@
 use native.Mathlib.Omega.{arith}
 use Rattle.curve.proofs.Laws.{product-fits}
 use borrow.Author.Needs.{needs}
-use Rattle.curve.proofs.horizon.slower.Statement.{statement}
-use Rattle.curve.proofs.horizon.slower.Tie as tie
-use Rattle.curve.proofs.horizon.slower.Reads as reads
-use Rattle.curve.proofs.horizon.slower.Lts as lts
+use Rattle.curve.proofs.crossing.slower.Statement.{statement}
+use Rattle.curve.proofs.crossing.slower.Tie as tie
 
--- src/horizon.rt:89:6
 cast-result : tie.Need-cast-result
 cast-result c = search needs
 
--- src/horizon.rt:89:27
 cast-result-2 : tie.Need-cast-result-2
 cast-result-2 c = search needs
 
--- src/horizon.rt:89:6
 mul-result : tie.Need-mul-result
 mul-result c = omega (arith, product-fits (c .before .before .args .f .increment) (c .before .before .args .g .period .0) 0 (omega arith) (omega arith) (omega arith))
 
--- src/horizon.rt:89:48
 cast-result-3 : tie.Need-cast-result-3
 cast-result-3 c = search needs
 
--- src/horizon.rt:89:69
 cast-result-4 : tie.Need-cast-result-4
 cast-result-4 c = search needs
 
--- src/horizon.rt:89:48
 mul-result-2 : tie.Need-mul-result-2
 mul-result-2 c = omega (arith, product-fits (c .before .before .before .before .args .g .increment) (c .before .before .before .before .args .f .period .0) 0 (omega arith) (omega arith) (omega arith))
 
--- src/horizon.rt:86:1
 returns : tie.Need-returns
 returns c = search needs
 

@@ -4,51 +4,35 @@ use Rattle.minplus.specs.Horizon.{crossing, highest, lowest, _increasedBy_}
 use Rattle.curve.specs.Held.{curveOf}
 use Rattle.curve.specs.Reach.{convolution-none, convolution-some}
 use borrow.Author.Needs.{needs}
-use Rattle.curve.proofs.horizon.convolution_n.Statement.{statement}
-use Rattle.curve.proofs.horizon.convolution_n.Tie as tie
-use Rattle.curve.proofs.horizon.convolution_n.Reads as reads
-use Rattle.curve.proofs.horizon.convolution_n.Lts as lts
-use Rattle.curve.proofs.horizon.begun.Reads as begun-reads
-use Rattle.curve.proofs.horizon.crossing.Reads as crossing-reads
-use Rattle.curve.proofs.horizon.earliest.Reads as earliest-reads
-use Rattle.curve.proofs.horizon.increased.Reads as increased-reads
-use Rattle.curve.proofs.horizon.turning.Reads as turning-reads
+use Rattle.curve.proofs.crossing.convolution_n.Statement.{statement}
+use Rattle.curve.proofs.crossing.convolution_n.Tie as tie
 
--- src/horizon.rt:157:9
 returns : tie.Need-returns
 returns c =
     let a = c .before .before .args in
     (sym (convolution-none (curveOf (a .f)) (curveOf (a .g)) (c .if1 .taken)), omega arith)
 
--- src/horizon.rt:159:23
 turning-requires : tie.Need-turning-requires
 turning-requires c κs = search needs
 
--- src/horizon.rt:159:41
 begun-requires : tie.Need-begun-requires
 begun-requires c κs = search needs
 
--- src/horizon.rt:159:9
 increased-requires : tie.Need-increased-requires
 increased-requires c κs = search needs
 
--- src/horizon.rt:160:23
 turning-requires-2 : tie.Need-turning-requires-2
 turning-requires-2 c κs = search needs
 
--- src/horizon.rt:160:42
 earliest-requires : tie.Need-earliest-requires
 earliest-requires c κs = search needs
 
--- src/horizon.rt:160:9
 increased-requires-2 : tie.Need-increased-requires-2
 increased-requires-2 c κs = search needs
 
--- src/horizon.rt:161:5
 crossing-requires : tie.Need-crossing-requires
 crossing-requires c κs = search needs
 
--- src/horizon.rt:151:1
 returns-2 : tie.Need-returns-2
 unfolding highest lowest
 returns-2 c =

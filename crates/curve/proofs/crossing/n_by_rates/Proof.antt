@@ -5,36 +5,26 @@ use Rattle.curve.specs.Held.{curveOf}
 use Rattle.curve.specs.Claimed.{operationOf}
 use Rattle.curve.specs.Reach.{crossingN, rates-left, rates-right, rates-even}
 use borrow.Author.Needs.{needs}
-use Rattle.curve.proofs.horizon.n_by_rates.Statement.{statement}
-use Rattle.curve.proofs.horizon.n_by_rates.Tie as tie
-use Rattle.curve.proofs.horizon.n_by_rates.Reads as reads
-use Rattle.curve.proofs.horizon.n_by_rates.Lts as lts
-use Rattle.curve.proofs.horizon.crossing_n.Reads as crossing-n-reads
-use Rattle.curve.proofs.horizon.slower.Reads as slower-reads
+use Rattle.curve.proofs.crossing.n_by_rates.Statement.{statement}
+use Rattle.curve.proofs.crossing.n_by_rates.Tie as tie
 
--- src/horizon.rt:148:8
 slower-requires : tie.Need-slower-requires
 slower-requires c κs = search needs
 
--- src/horizon.rt:149:9
 crossing-n-requires : tie.Need-crossing-n-requires
 crossing-n-requires c κs = record { left = c .before .before .pre .0; right = c .before .before .pre .1; slower = ltb-true _ _ (sym (c .before .slower .ensures) ∙ c .if1 .taken) }
 
--- src/horizon.rt:149:9
 returns : tie.Need-returns
 returns c =
     let a = c .before .before .before .args in
     (c .crossing-n .ensures .0 ∙ sym (rates-left (curveOf (a .f)) (curveOf (a .g)) 0 (crossingN (operationOf (a .operation))) (sym (c .before .before .slower .ensures) ∙ c .before .if1 .taken)), c .crossing-n .ensures .1)
 
--- src/horizon.rt:151:8
 slower-requires-2 : tie.Need-slower-requires-2
 slower-requires-2 c κs = search needs
 
--- src/horizon.rt:152:9
 crossing-n-requires-2 : tie.Need-crossing-n-requires-2
 crossing-n-requires-2 c κs = record { left = c .before .before .before .before .pre .1; right = c .before .before .before .before .pre .0; slower = ltb-true _ _ (sym (c .before .slower2 .ensures) ∙ c .if2 .taken) }
 
--- src/horizon.rt:152:9
 returns-2 : tie.Need-returns-2
 returns-2 c =
     let a = c .before .before .before .before .before .args in (
@@ -43,7 +33,6 @@ returns-2 c =
       c .crossing-n2 .ensures .1,
     )
 
--- src/horizon.rt:143:1
 returns-3 : tie.Need-returns-3
 returns-3 c =
     let a = c .before .before .before .before .args in

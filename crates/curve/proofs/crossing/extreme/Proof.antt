@@ -6,12 +6,8 @@ use denote.Ref.{now}
 use Rattle.minplus.specs.Search.{best, best-next}
 use Rattle.minplus.specs.Horizon.{extremeOf}
 use Rattle.curve.specs.Reach.{choice, choice-fits, raisedAt, large}
-use Rattle.curve.proofs.horizon.extreme.Statement.{statement}
-use Rattle.curve.proofs.horizon.extreme.Tie as tie
-use Rattle.curve.proofs.horizon.extreme.Reads as reads
-use Rattle.curve.proofs.horizon.extreme.Lts as lts
-use Rattle.curve.proofs.horizon.chosen.Reads as chosen-reads
-use Rattle.curve.proofs.horizon.raised.Reads as raised-reads
+use Rattle.curve.proofs.crossing.extreme.Statement.{statement}
+use Rattle.curve.proofs.crossing.extreme.Tie as tie
 
 abbrev Inv-loop : tie.InvT-loop
 Inv-loop greatest listed d c start count kept₀ i₀ kept i =
@@ -20,32 +16,25 @@ Inv-loop greatest listed d c start count kept₀ i₀ kept i =
 abbrev μ-loop : tie.MeasureT-loop
 μ-loop greatest listed d c start count kept₀ i₀ kept i = count - i
 
--- src/horizon.rt:70:9
 raised-requires : tie.Need-raised-requires Inv-loop μ-loop
 raised-requires c κs = (c .before .pre, c .before .pre .some)
 
--- src/horizon.rt:72:5
 loop-holds : tie.Need-loop-holds Inv-loop μ-loop
 unfolding best
 loop-holds c = (omega arith, (c .before .before .pre .some, (c .raised .ensures .0, c .raised .ensures .1)))
 
--- src/horizon.rt:73:39
 raised-requires-2 : tie.Need-raised-requires-2 Inv-loop μ-loop
 raised-requires-2 c κs = (c .before .before .before .before .pre, c .loop-test .taken)
 
--- src/horizon.rt:73:9
 chosen-requires : tie.Need-chosen-requires Inv-loop μ-loop
 chosen-requires c κs = tt
 
--- src/horizon.rt:74:9
 add-i : tie.Need-add-i Inv-loop μ-loop
 add-i c = omega arith
 
--- src/horizon.rt:72:5
 loop-less : tie.Need-loop-less Inv-loop μ-loop
 loop-less c = omega arith
 
--- src/horizon.rt:72:5
 loop-again : tie.Need-loop-again Inv-loop μ-loop
 loop-again c =
     let at = c .before .before .before .loop in
@@ -64,15 +53,12 @@ loop-again c =
       ),
     )
 
--- src/horizon.rt:78:21
 add-t11 : tie.Need-add-t11 Inv-loop μ-loop
 add-t11 c = omega (arith, c .before .before .before .before .pre .room)
 
--- src/horizon.rt:78:16
 mul-t13 : tie.Need-mul-t13 Inv-loop μ-loop
 mul-t13 c = omega (arith, mul-le-mul (c .before .before .before .before .pre .slope-fits) (c .before .before .before .before .pre .room))
 
--- src/horizon.rt:65:1
 returns : tie.Need-returns Inv-loop μ-loop
 unfolding extremeOf
 returns c =

@@ -5,25 +5,18 @@ use native.Mathlib.Nat.{mul-le-mul, le-of-lt}
 use Rattle.minplus.specs.Curve.{period-fits, rank-fits, value-at-most}
 use Rattle.curve.specs.Held.{curveOf}
 use borrow.Author.Needs.{needs}
-use Rattle.curve.proofs.horizon.begun.Statement.{statement}
-use Rattle.curve.proofs.horizon.begun.Tie as tie
-use Rattle.curve.proofs.horizon.begun.Reads as reads
-use Rattle.curve.proofs.horizon.begun.Lts as lts
-use Rattle.curve.proofs.values.value_at.Reads as value-at-reads
+use Rattle.curve.proofs.crossing.begun.Statement.{statement}
+use Rattle.curve.proofs.crossing.begun.Tie as tie
 
--- src/horizon.rt:130:13
 cast-d : tie.Need-cast-d
 cast-d c = search needs
 
--- src/horizon.rt:131:13
 cast-c : tie.Need-cast-c
 cast-c c = search needs
 
--- src/horizon.rt:133:9
 value-at-requires : tie.Need-value-at-requires
 value-at-requires c κs = search needs
 
--- src/horizon.rt:135:15
 mul-t13 : tie.Need-mul-t13
 mul-t13 c =
     let w = c .before .before .before .before .before .before .before .before .before .before .pre in
@@ -31,15 +24,12 @@ mul-t13 c =
     omega (arith, c .before .value-at .ensures, value-at-most (curveOf (c .before .before .before .before .before .before .before .before .before .before .args .t2)) (w .right) (c .before .before .before .before .before .before .before .before .before .before .args .t2 .rank .0), rank-fits (w .right)) in
     omega (arith, mul-le-mul (period-fits (w .left)) value-fits)
 
--- src/horizon.rt:136:20
 cast-t14 : tie.Need-cast-t14
 cast-t14 c = search needs
 
--- src/horizon.rt:136:16
 mul-t15 : tie.Need-mul-t15
 mul-t15 c = omega (arith, mul-le-mul (c .before .before .before .before .before .before .before .before .before .before .before .pre .left .increment-fits) (le-of-lt (rank-fits (c .before .before .before .before .before .before .before .before .before .before .before .pre .right))))
 
--- src/horizon.rt:125:1
 returns : tie.Need-returns
 returns c =
     let w = c .before .before .before .before .before .before .before .before .before .before .before .pre in

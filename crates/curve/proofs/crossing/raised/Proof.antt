@@ -4,10 +4,10 @@ use native.Mathlib.Omega.{arith}
 use denote.Ref.{now}
 use Rattle.curve.specs.Reach.{raisedAt, raised-fits, large}
 use borrow.Author.Needs.{needs}
-use Rattle.curve.proofs.horizon.raised.Statement.{statement}
-use Rattle.curve.proofs.horizon.raised.Tie as tie
-use Rattle.curve.proofs.horizon.raised.Reads as reads
-use Rattle.curve.proofs.horizon.raised.Lts as lts
+use Rattle.curve.proofs.crossing.raised.Statement.{statement}
+use Rattle.curve.proofs.crossing.raised.Tie as tie
+use Rattle.curve.proofs.crossing.raised.Reads as reads
+use Rattle.curve.proofs.crossing.raised.Lts as lts
 
 -- the sum is far below 2^64, and so are its parts
 fits : (c : lts.After-shared-slice-known reads.Pre reads.Post)
@@ -16,39 +16,30 @@ fits c =
     raised-fits (c .before .args .i) (c .before .pre .0)
     (omega (arith, c .shared-slice-known .given (c .before .args .start + c .before .args .i)))
 
--- src/horizon.rt:61:16
 add-result : tie.Need-add-result
 add-result c = search needs
 
--- src/horizon.rt:61:9
 mul-result : tie.Need-mul-result
 mul-result c = search needs
 
--- src/horizon.rt:61:9
 shared-slice-read-result : tie.Need-shared-slice-read-result
 shared-slice-read-result c = search needs
 
--- src/horizon.rt:61:9
 cast-result : tie.Need-cast-result
 cast-result c = omega (arith, c .shared-slice-known .given (c .before .args .start + c .before .args .i))
 
--- src/horizon.rt:61:5
 mul-result-2 : tie.Need-mul-result-2
 mul-result-2 c = omega (arith, fits c)
 
--- src/horizon.rt:61:41
 sub-result : tie.Need-sub-result
 sub-result c = search needs
 
--- src/horizon.rt:61:36
 mul-result-3 : tie.Need-mul-result-3
 mul-result-3 c = omega (arith, fits c)
 
--- src/horizon.rt:61:5
 add-result-2 : tie.Need-add-result-2
 add-result-2 c = omega (arith, fits c)
 
--- src/horizon.rt:56:1
 returns : tie.Need-returns
 returns c = (refl, fits c)
 

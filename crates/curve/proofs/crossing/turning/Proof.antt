@@ -2,33 +2,24 @@ use mathlib.Core.Path.{sym, _∙_}
 use native.Mathlib.Omega.{arith}
 use Rattle.curve.specs.Reach.{choice, extreme-held}
 use borrow.Author.Needs.{needs}
-use Rattle.curve.proofs.horizon.turning.Statement.{statement}
-use Rattle.curve.proofs.horizon.turning.Tie as tie
-use Rattle.curve.proofs.horizon.turning.Reads as reads
-use Rattle.curve.proofs.horizon.turning.Lts as lts
-use Rattle.curve.proofs.horizon.extreme.Reads as extreme-reads
+use Rattle.curve.proofs.crossing.turning.Statement.{statement}
+use Rattle.curve.proofs.crossing.turning.Tie as tie
 
--- src/horizon.rt:82:34
 cast-extreme : tie.Need-cast-extreme
 cast-extreme c = search needs
 
--- src/horizon.rt:82:44
 cast-extreme-2 : tie.Need-cast-extreme-2
 cast-extreme-2 c = search needs
 
--- src/horizon.rt:82:64
 cast-extreme-3 : tie.Need-cast-extreme-3
 cast-extreme-3 c = search needs
 
--- src/horizon.rt:82:76
 cast-extreme-4 : tie.Need-cast-extreme-4
 cast-extreme-4 c = search needs
 
--- src/horizon.rt:82:5
 extreme-requires : tie.Need-extreme-requires
 extreme-requires c κs = search needs
 
--- src/horizon.rt:75:1
 returns : tie.Need-returns
 returns c =
     let f = c .before .before .before .before .args .t2 in

@@ -4,29 +4,21 @@ use native.Mathlib.Omega.{arith}
 use Rattle.minplus.specs.Horizon.{earliest}
 use Rattle.curve.specs.Reach.{extreme-held}
 use borrow.Author.Needs.{needs}
-use Rattle.curve.proofs.horizon.earliest.Statement.{statement}
-use Rattle.curve.proofs.horizon.earliest.Tie as tie
-use Rattle.curve.proofs.horizon.earliest.Reads as reads
-use Rattle.curve.proofs.horizon.earliest.Lts as lts
-use Rattle.curve.proofs.horizon.extreme.Reads as extreme-reads
+use Rattle.curve.proofs.crossing.earliest.Statement.{statement}
+use Rattle.curve.proofs.crossing.earliest.Tie as tie
 
--- src/horizon.rt:147:31
 cast-extreme : tie.Need-cast-extreme
 cast-extreme c = search needs
 
--- src/horizon.rt:147:50
 cast-extreme-2 : tie.Need-cast-extreme-2
 cast-extreme-2 c = search needs
 
--- src/horizon.rt:147:73
 cast-extreme-3 : tie.Need-cast-extreme-3
 cast-extreme-3 c = search needs
 
--- src/horizon.rt:147:5
 extreme-requires : tie.Need-extreme-requires
 extreme-requires c κs = search needs
 
--- src/horizon.rt:141:1
 returns : tie.Need-returns
 unfolding earliest
 returns c =

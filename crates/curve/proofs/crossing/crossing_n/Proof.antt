@@ -4,48 +4,34 @@ use Rattle.minplus.specs.Horizon.{crossing, highest, lowest, minimumN}
 use Rattle.curve.specs.Held.{curveOf}
 use Rattle.curve.specs.Reach.{crossingN}
 use borrow.Author.Needs.{needs}
-use Rattle.curve.proofs.horizon.crossing_n.Statement.{statement}
-use Rattle.curve.proofs.horizon.crossing_n.Tie as tie
-use Rattle.curve.proofs.horizon.crossing_n.Reads as reads
-use Rattle.curve.proofs.horizon.crossing_n.Lts as lts
-use Rattle.curve.proofs.horizon.convolution_n.Reads as convolution-n-reads
-use Rattle.curve.proofs.horizon.crossing.Reads as crossing-reads
-use Rattle.curve.proofs.horizon.turning.Reads as turning-reads
+use Rattle.curve.proofs.crossing.crossing_n.Statement.{statement}
+use Rattle.curve.proofs.crossing.crossing_n.Tie as tie
 
--- src/horizon.rt:136:27
 enum-told : tie.Need-enum-told
 enum-told c = search needs
 
--- src/horizon.rt:137:46
 enum-told-2 : tie.Need-enum-told-2
 enum-told-2 c = search needs
 
--- src/horizon.rt:137:46
 turning-requires : tie.Need-turning-requires
 turning-requires c κs = search needs
 
--- src/horizon.rt:137:64
 turning-requires-2 : tie.Need-turning-requires-2
 turning-requires-2 c κs = search needs
 
--- src/horizon.rt:137:31
 crossing-requires : tie.Need-crossing-requires
 crossing-requires c κs = search needs
 
--- src/horizon.rt:138:35
 enum-told-3 : tie.Need-enum-told-3
 enum-told-3 c = search needs
 
--- src/horizon.rt:138:35
 convolution-n-requires : tie.Need-convolution-n-requires
 convolution-n-requires c κs = search needs
 
--- src/horizon.rt:130:1
 returns : tie.Need-returns
 unfolding crossingN
 returns c = rw (c .enum-told .given .1) (refl, omega arith)
 
--- src/horizon.rt:130:1
 returns-2 : tie.Need-returns-2
 unfolding crossingN minimumN highest lowest
 returns-2 c =
@@ -55,7 +41,6 @@ returns-2 c =
       c .crossing .ensures .1,
     )
 
--- src/horizon.rt:130:1
 returns-3 : tie.Need-returns-3
 unfolding crossingN
 returns-3 c = rw (c .before .enum-told3 .given .1) (c .convolution-n .ensures)
