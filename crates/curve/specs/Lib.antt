@@ -4,4 +4,5 @@ pub mod Held
 pub mod Table
 pub mod Claimed
 pub mod Told
+pub mod Kinds
 pub mod Reach

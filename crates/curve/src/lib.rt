@@ -2,6 +2,7 @@
 ghost use mathlib.Core.Path.{_≡_};
 ghost use Prim.Native.Nat.{ℕ, _+_, _<_, _≤_};
 ghost use Rattle.curve.specs.Held.{padded};
+ghost use Rattle.curve.specs.Kinds.{namedBy, limitedBy};
 
 mod crossing;
 mod divisor;
@@ -71,10 +72,45 @@ pub enum Claim {
     Exactly(Deviation),
 }
 
+// What a kind's number and an X make.
+pub enum Named {
+    Claim(Claim),
+    UnknownKind,
+    XTooLarge,
+}
+
 impl Claim {
     pub const MAX_X: u32 = 1_000_000_000;
 
     pub const MAX_HORIZON: usize = 4_096;
+
+    // Kinds 1 to 3 have no X: what is passed for it is not looked at.
+    pub fn new(kind: u8, x: u32) -> Named
+        ensures { λ r. ⌜ r ≡ namedBy kind x ⌝ }
+    {
+        let delay = Deviation::Delay(Ticks(x));
+        let backlog = Deviation::Backlog(Units(x as u64));
+        match kind {
+            1 => Named::Claim(Claim::Equals(Operation::Sum)),
+            2 => Named::Claim(Claim::Equals(Operation::Minimum)),
+            3 => Named::Claim(Claim::Equals(Operation::Convolution)),
+            4 => limited(x, Claim::AtMost(delay)),
+            5 => limited(x, Claim::Exactly(delay)),
+            6 => limited(x, Claim::AtMost(backlog)),
+            7 => limited(x, Claim::Exactly(backlog)),
+            _ => Named::UnknownKind,
+        }
+    }
+}
+
+fn limited(x: u32, claim: Claim) -> Named
+    ensures { λ r. ⌜ r ≡ limitedBy x claim ⌝ }
+{
+    if Claim::MAX_X < x {
+        Named::XTooLarge
+    } else {
+        Named::Claim(claim)
+    }
 }
 
 // A curve's values at the ticks 0 to 4,096. Up to there a value, and a sum over a split, fits 32 bits.
