@@ -1,7 +1,7 @@
 -- The claim that the code's values stand for.
 --
 --     operationOf               kinds 1 to 3
---     deviationOf, sizeOf       kinds 4 to 7, and their X
+--     deviationOf, amountOf       kinds 4 to 7, and their X
 --     boundOf, claimOf          the claim, from the enum and the curves beside it
 --     two-well                  of a well-formed claim the left and the right curve are well formed
 use Prim.Native.Nat.{ℕ}
@@ -22,16 +22,16 @@ operationOf Minimum = C.minimum
 operationOf Convolution = C.convolution
 
 -- X
-abbrev pub sizeOf : Deviation → ℕ
-sizeOf (Delay x) = x .0
-sizeOf (Backlog x) = x .0
+abbrev pub amountOf : Deviation → ℕ
+amountOf (Delay x) = x .0
+amountOf (Backlog x) = x .0
 
 abbrev pub deviationOf : Deviation → C.Deviation
 deviationOf (Delay x) = C.delay
 deviationOf (Backlog x) = C.backlog
 
 abbrev pub boundOf : Deviation → C.Tightness → Curve → Curve → C.Claim
-boundOf x t f g = C.bounds (deviationOf x) t (curveOf f) (curveOf g) (sizeOf x)
+boundOf x t f g = C.bounds (deviationOf x) t (curveOf f) (curveOf g) (amountOf x)
 
 -- kinds 4 to 7 have no claimed curve
 abbrev pub claimOf : Claim → Curve → Curve → Curve → C.Claim

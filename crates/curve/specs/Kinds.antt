@@ -16,7 +16,7 @@ use Rattle.curve.specs.declared.Claim.the-variants.{Equals, AtMost, Exac
 use Rattle.curve.specs.declared.Named.{Named}
 use Rattle.curve.specs.declared.Named.the-variants.{UnknownKind, XTooLarge}
 use Rattle.curve.specs.declared.Named.the-variants as named
-use Rattle.curve.specs.Claimed.{operationOf, deviationOf, sizeOf}
+use Rattle.curve.specs.Claimed.{operationOf, deviationOf, amountOf}
 
 unfoldable pub limitedBy : ℕ → Claim → Named
 limitedBy x c = elim (ltb M.maxX x) [ true ↦ XTooLarge | false ↦ named.Claim c ]
@@ -45,8 +45,8 @@ kindOf (Exactly x) = M.bound (deviationOf x) M.exactly
 -- X of a claim, 0 where it has none
 abbrev pub xOf : Claim → ℕ
 xOf (Equals o) = 0
-xOf (AtMost x) = sizeOf x
-xOf (Exactly x) = sizeOf x
+xOf (AtMost x) = amountOf x
+xOf (Exactly x) = amountOf x
 
 pub named-back : (c : Claim) → xOf c ≤ M.maxX → namedBy (M.kindNumber (kindOf c)) (xOf c) ≡ named.Claim c
 unfolding namedBy limitedBy M.kindNumber

@@ -6,7 +6,8 @@
 --     Extent, Small, Ready, Crossable      what is known where it is computed, so that products fit
 --     evenRank, crossingN       the rank with equal rates, and N where f is the slower curve
 --     rank-is                   R is the greater of the two
---     horizonAnswer             the answer: no horizon for a claim that is not well formed
+--     horizonAnswer             the answer: no horizon for a claim that is not well formed (horizon-none, ill-formed), else its
+--                               horizon (horizon-at, at-horizon)
 use Prim.Native.Nat.{ℕ, zero, suc, _+_, _-_, _*_, _≤_, _<_, min, max}
 use mathlib.Core.Path.{_≡_, refl, sym, ap, _∙_}
 use mathlib.Core.Bool.{Bool, true, false}
@@ -186,10 +187,26 @@ pub convolution-some : (f g : C.Curve) → 1 ≤ f .rank
 unfolding H.convolutionN
 convolution-some f g some = let e : f .rank ≡ suc (f .rank - 1) = omega arith in rw e
 
-pub horizon-none : (c : M.Claim) → M.wellFormedClaim c ≡ false → horizonAnswer c ≡ IllFormed
-unfolding horizonAnswer
-horizon-none c e = rw (e, horizonAnswer)
+-- the answer from what holds, and what holds from the answer
+module _ (c : M.Claim) where
+  pub horizon-none : M.wellFormedClaim c ≡ false → horizonAnswer c ≡ IllFormed
+  unfolding horizonAnswer
+  horizon-none e = rw (e, horizonAnswer)
 
-pub horizon-at : (c : M.Claim) → M.wellFormedClaim c ≡ true → horizonAnswer c ≡ At (H.horizon c)
-unfolding horizonAnswer
-horizon-at c e = rw (e, horizonAnswer)
+  pub horizon-at : M.wellFormedClaim c ≡ true → horizonAnswer c ≡ At (H.horizon c)
+  unfolding horizonAnswer
+  horizon-at e = rw (e, horizonAnswer)
+
+  pub ill-formed : horizonAnswer c ≡ IllFormed → M.wellFormedClaim c ≡ false
+  ill-formed e = go (M.wellFormedClaim c) refl
+    where
+      go : (b : Bool) → M.wellFormedClaim c ≡ b → b ≡ false
+      go false is = refl
+      go true is = let z : _≡_ {A = ℕ} 0 1 = cc (horizon-at is) in absurd (omega arith)
+
+  pub at-horizon : (n : ℕ) → horizonAnswer c ≡ At n → (M.wellFormedClaim c ≡ true) × (H.horizon c ≡ n)
+  at-horizon n e = go (M.wellFormedClaim c) refl
+    where
+      go : (b : Bool) → M.wellFormedClaim c ≡ b → (b ≡ true) × (H.horizon c ≡ n)
+      go true is = (refl, cc (horizon-at is))
+      go false is = let z : _≡_ {A = ℕ} 0 1 = cc (horizon-none is) in absurd (omega arith)

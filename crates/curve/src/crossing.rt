@@ -9,6 +9,7 @@ ghost use Rattle.curve.specs.Claimed.{operationOf};
 ghost use Rattle.curve.specs.Reach.{choice, signedOf, raisedAt, begunAt, Extent, Small, Ready, Crossable, large, far, crossingN};
 use crate::Curve;
 use crate::Operation;
+use crate::rates::slower;
 use crate::values::value_at;
 
 // A whole number that may be below 0: plus less minus.
@@ -82,13 +83,6 @@ fn turning(greatest: bool, f: Curve) -> Signed
         t as usize,
         d as usize,
     )
-}
-
-// Rates are compared by cross products: a division would take 1/2 and 2/3 for the same.
-fn slower(f: Curve, g: Curve) -> bool
-    ensures { λ r. ⌜ r ≡ Def.slower (curveOf f) (curveOf g) ⌝ }
-{
-    (f.increment as u64 * g.period.0 as u64) < g.increment as u64 * f.period.0 as u64
 }
 
 // N from A and B.

@@ -4,7 +4,7 @@ ghost use lib.ListN.{length};
 ghost use Rattle.minplus.specs.Curve.{WellFormed};
 ghost use Rattle.minplus.specs.Claim.{WellFormedClaim, maxX};
 ghost use Rattle.curve.specs.Held.{curveOf, Listed};
-ghost use Rattle.curve.specs.Claimed.{claimOf, sizeOf};
+ghost use Rattle.curve.specs.Claimed.{claimOf, amountOf};
 ghost use Rattle.curve.specs.Told.{Told};
 use crate::Claim;
 use crate::Curve;
@@ -47,7 +47,7 @@ fn well_formed(f: Curve) -> bool
 }
 
 fn within(deviation: Deviation) -> bool
-    ensures { λ r. ⌜ Told (sizeOf deviation ≤ maxX) r ⌝ }
+    ensures { λ r. ⌜ Told (amountOf deviation ≤ maxX) r ⌝ }
 {
     match deviation {
         Deviation::Delay(x) => x.0 <= Claim::MAX_X,

@@ -8,6 +8,7 @@ mod crossing;
 mod divisor;
 mod form;
 pub mod horizon;
+pub mod rates;
 pub mod values;
 
 // A count of ticks. A count of units can't be passed for it.

@@ -1,8 +1,8 @@
 use native.Mathlib.Omega.{arith}
 use Rattle.curve.proofs.Laws.{product-fits}
 use borrow.Author.Needs.{needs}
-use Rattle.curve.proofs.crossing.slower.Statement.{statement}
-use Rattle.curve.proofs.crossing.slower.Tie as tie
+use Rattle.curve.proofs.rates.slower.Statement.{statement}
+use Rattle.curve.proofs.rates.slower.Tie as tie
 
 cast-result : tie.Need-cast-result
 cast-result c = search needs
