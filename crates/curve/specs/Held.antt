@@ -1,4 +1,10 @@
--- The curve and the claim that the code's values stand for.
+-- The curve that the code's values stand for.
+--
+--     heldOf, curveOf                T, d, c and the first T + d places of an array, as a curve of the crate minplus
+--     padded                         a list in the working array; held-whole: what is put in is what is held
+--     Listed                         document 01's limits on the listed values, for a loop that looks at one more each turn
+--     listed-none, listed-more       before the first turn, and after one more
+--     held-listed, listed-held       of the working array, exactly the values that count have to keep them
 use Prim.Native.Nat.{ℕ, zero, suc, _+_, _≤_, _<_, min}
 use mathlib.Core.Path.{_≡_, sym, ap, _∙_}
 use mathlib.Core.List.{List, _∷_}
@@ -25,7 +31,7 @@ padded l = filled (λ n. getD l n 0) C.maxListed (min (length l) C.maxListed)
 
 -- what is put in is what is held
 module _ (rank period increment : ℕ) (listed : List ℕ) (whole : length listed ≡ rank + period) (fits : rank + period ≤ C.maxListed) where
-  held-whole : heldOf rank period increment (padded listed) ≡ record { rank = rank; period = period; increment = increment; listed = listed }
+  pub held-whole : heldOf rank period increment (padded listed) ≡ record { rank = rank; period = period; increment = increment; listed = listed }
   held-whole =
       let stored : min (length listed) C.maxListed ≡ rank + period = omega arith in
       let F : ℕ → ℕ = λ n. getD listed n 0 in

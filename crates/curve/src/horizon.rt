@@ -23,12 +23,12 @@ pub enum Horizon {
 }
 
 // D.
-fn common_period(f: Curve, g: Curve) -> u64
+fn common_period(f: Curve, g: Curve) -> u32
     requires { ⌜ WellFormed (curveOf f) × WellFormed (curveOf g) ⌝ }
     ensures { λ r. ⌜ r ≡ Def.commonPeriod (curveOf f) (curveOf g) ⌝ }
-    ensures { λ r. ⌜ (1 ≤ r) × (r ≤ 65_536) ⌝ }
+    ensures { λ r. ⌜ r ≤ 65_536 ⌝ }
 {
-    common_multiple(f.period.0 as u64, g.period.0 as u64)
+    common_multiple(f.period.0, g.period.0) as u32
 }
 
 fn even_rank(operation: Operation, f: Curve, g: Curve) -> u64
@@ -39,7 +39,7 @@ fn even_rank(operation: Operation, f: Curve, g: Curve) -> u64
     match operation {
         Operation::Sum => larger(f.rank.0 as u64, g.rank.0 as u64),
         Operation::Minimum => larger(f.rank.0 as u64, g.rank.0 as u64),
-        Operation::Convolution => f.rank.0 as u64 + g.rank.0 as u64 + common_period(f, g),
+        Operation::Convolution => f.rank.0 as u64 + g.rank.0 as u64 + common_period(f, g) as u64,
     }
 }
 
@@ -50,7 +50,7 @@ fn result_horizon(operation: Operation, f: Curve, g: Curve, h: Curve) -> u64
 {
     let rank = larger(even_rank(operation, f, g), n_by_rates(operation, f, g));
     let last = larger(rank, h.rank.0 as u64);
-    last + common_multiple(common_period(f, g), h.period.0 as u64)
+    last + common_multiple(common_period(f, g), h.period.0)
 }
 
 // Kinds 4 to 7: max(T,T') + D.
@@ -58,7 +58,7 @@ fn bound_horizon(f: Curve, g: Curve) -> u64
     requires { ⌜ WellFormed (curveOf f) × WellFormed (curveOf g) ⌝ }
     ensures { λ r. ⌜ r ≡ max (f .rank .0) (g .rank .0) + Def.commonPeriod (curveOf f) (curveOf g) ⌝ }
 {
-    larger(f.rank.0 as u64, g.rank.0 as u64) + common_period(f, g)
+    larger(f.rank.0 as u64, g.rank.0 as u64) + common_period(f, g) as u64
 }
 
 pub fn horizon_of(claim: Claim, f: Curve, g: Curve, h: Curve) -> Horizon

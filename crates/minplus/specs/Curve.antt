@@ -11,7 +11,6 @@
 --     value-listed              below T + d it is the listed value
 --     value-gains               from T on it gains c over d; value-repeats: and k*c over k*d
 --     value-only                nothing else has both: the first two sentences above leave one function
---     value-relisted            what the list holds from T + d on changes no value
 --     period-fits, rank-fits, value-at-most     how large they can be
 --     value-after, value-no-period     the rule with its cases told apart, for code that tells them apart
 use Prim.Native.Nat.{ℕ, suc, _+_, _-_, _*_, _/_, _%_, _≤_, _<_, min}
@@ -60,10 +59,6 @@ pub record WellFormed (f : Curve) : Type 0 where
 unfoldable pub value : Curve → ℕ → ℕ
 value f n = listedAt f (min n (f .rank) + (n - f .rank) % f .period) + (n - f .rank) / f .period * f .increment
 
--- f with another list: a working array, say, that is longer than T + d
-abbrev pub relisted : Curve → List ℕ → Curve
-relisted f l = record { rank = f .rank; period = f .period; increment = f .increment; listed = l }
-
 -- WellFormed as a test
 unfoldable pub wellFormed : Curve → Bool
 unfolding allBelow
@@ -107,11 +102,6 @@ pub value-only : (f : Curve) → 1 ≤ f .period → (F : ℕ → ℕ) → ((n :
 value-only f positive F listed gains =
     every-period (λ n. F n ≡ value f n) (f .rank) (f .period) positive (λ n lt. listed n lt ∙ sym (value-listed f positive n lt))
     (λ n le e. gains .gain n le ∙ ap (λ (x : ℕ). x + f .increment) e ∙ sym (value-gains f positive .gain n le))
-
-pub value-relisted : (f : Curve) → 1 ≤ f .period → (l : List ℕ) → ((n : ℕ) → n < count f → getD l n 0 ≡ listedAt f n)
-    → (n : ℕ) → value (relisted f l) n ≡ value f n
-value-relisted f positive l same =
-    value-only f positive (value (relisted f l)) (λ n lt. value-listed (relisted f l) positive n lt ∙ same n lt) (value-gains (relisted f l) positive)
 
 pub value-after : (f : Curve) (n : ℕ) → f .rank ≤ n
     → value f n ≡ listedAt f (f .rank + (n - f .rank) % f .period) + (n - f .rank) / f .period * f .increment

@@ -7,11 +7,11 @@
 --     gcd-left, gcd-right, gcd-greatest     it divides both, and each common divisor divides it
 --     lcm a b          a / gcd a b * b
 --     lcm-left, lcm-right, lcm-least        both divide it, and it divides each common multiple; lcm-comm
---     gcd-positive, lcm-positive, lcm-at-most     the bounds that code needs
+--     lcm-positive, lcm-at-most, lcm-none     the bounds that code needs, and the one case that Euclid's rule leaves at 0
 use Prim.Native.Nat.{ℕ, zero, suc, _-_, _*_, _/_, _%_, _≤_, _<_, _∣_}
 use mathlib.Core.Path.{_≡_, refl, sym, ap, _∙_, subst}
 use native.Mathlib.Omega.{arith}
-use native.Mathlib.Nat.{mod-lt, dvd-refl, dvd-zero, dvd-mod-iff, dvd-mul-left, dvd-mul-right, dvd-sub, dvd-antisymm, div-mul-cancel, pos-of-dvd-of-pos, dvd-mul-left-of-dvd, div-add-mod', dvd-of-mul-dvd-mul-left, mul-comm, mul-dvd-mul-left, mul-pos, one-mul, eq-zero-of-zero-dvd, mul-dvd-mul-right, div-le-self, mul-le-mul-right}
+use native.Mathlib.Nat.{mod-lt, dvd-refl, dvd-zero, dvd-mod-iff, dvd-mul-left, dvd-mul-right, dvd-sub, dvd-antisymm, div-mul-cancel, pos-of-dvd-of-pos, dvd-mul-left-of-dvd, div-add-mod', dvd-of-mul-dvd-mul-left, mul-comm, mul-dvd-mul-left, mul-pos, one-mul, eq-zero-of-zero-dvd, mul-dvd-mul-right, div-le-self, div-zero, mul-le-mul-right}
 
 -- Euclid's rule with a bound on its steps: the second number falls, so that many steps and one more are enough
 gcdBy : ℕ → ℕ → ℕ → ℕ
@@ -73,9 +73,6 @@ pub gcd-right : (a b : ℕ) → gcd a b ∣ b
 unfolding gcd
 gcd-right a b = divides (suc b) a b (omega arith) .1
 
-pub gcd-positive : (a b : ℕ) → 0 < a → 0 < gcd a b
-gcd-positive a b h = pos-of-dvd-of-pos (gcd-left a b) h
-
 scaled : (m x a b : ℕ) → x ∣ m * a → x ∣ m * b → x ∣ m * gcd a b
 unfolding gcd
 scaled m x a b p q = reached m x (suc b) a b p q
@@ -122,3 +119,8 @@ lcm-positive a b h i = pos-of-dvd-of-pos (lcm-least (a * b) a b (dvd-mul-right a
 pub lcm-at-most : (a b : ℕ) → lcm a b ≤ a * b
 unfolding lcm
 lcm-at-most a b = mul-le-mul-right b (div-le-self a (gcd a b))
+
+-- where both numbers are 0
+pub lcm-none : (a b : ℕ) → gcd a b ≡ 0 → lcm a b ≡ 0
+unfolding lcm
+lcm-none a b e = rw (e, div-zero a) (omega arith)

@@ -3,62 +3,47 @@ use Rattle.curve.specs.Kinds.{namedBy}
 use borrow.Author.Needs.{needs}
 use Rattle.curve.proofs.Claim.new.Statement.{statement}
 use Rattle.curve.proofs.Claim.new.Tie as tie
-use Rattle.curve.proofs.Claim.new.Reads as reads
-use Rattle.curve.proofs.Claim.new.Lts as lts
-use Rattle.curve.proofs.limited.Reads as limited-reads
 
--- src/lib.rt:96:18
 limited-requires : tie.Need-limited-requires
 limited-requires c κs = search needs
 
--- src/lib.rt:97:18
 limited-requires-2 : tie.Need-limited-requires-2
 limited-requires-2 c κs = search needs
 
--- src/lib.rt:98:18
 limited-requires-3 : tie.Need-limited-requires-3
 limited-requires-3 c κs = search needs
 
--- src/lib.rt:99:18
 limited-requires-4 : tie.Need-limited-requires-4
 limited-requires-4 c κs = search needs
 
--- src/lib.rt:87:5
 returns : tie.Need-returns
 unfolding namedBy
 returns c = rw (c .match .keys1)
 
--- src/lib.rt:87:5
 returns-2 : tie.Need-returns-2
 unfolding namedBy
 returns-2 c = rw (c .match .keys2)
 
--- src/lib.rt:87:5
 returns-3 : tie.Need-returns-3
 unfolding namedBy
 returns-3 c = rw (c .match .keys3)
 
--- src/lib.rt:87:5
 returns-4 : tie.Need-returns-4
 unfolding namedBy
 returns-4 c = rw (c .before .match .keys4) (c .limited .ensures)
 
--- src/lib.rt:87:5
 returns-5 : tie.Need-returns-5
 unfolding namedBy
 returns-5 c = rw (c .before .match .keys5) (c .limited2 .ensures)
 
--- src/lib.rt:87:5
 returns-6 : tie.Need-returns-6
 unfolding namedBy
 returns-6 c = rw (c .before .match .keys6) (c .limited3 .ensures)
 
--- src/lib.rt:87:5
 returns-7 : tie.Need-returns-7
 unfolding namedBy
 returns-7 c = rw (c .before .match .keys7) (c .limited4 .ensures)
 
--- src/lib.rt:87:5
 returns-8 : tie.Need-returns-8
 unfolding namedBy
 returns-8 c =

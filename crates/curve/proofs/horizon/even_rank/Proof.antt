@@ -44,6 +44,9 @@ add-result c = search needs
 common-period-requires : tie.Need-common-period-requires
 common-period-requires c κs = search needs
 
+cast-result-3 : tie.Need-cast-result-3
+cast-result-3 c = search needs
+
 add-result-2 : tie.Need-add-result-2
 add-result-2 c = search needs
 
@@ -64,7 +67,7 @@ unfolding evenRank
 returns-3 c =
     let w = c .before .before .before .before .before .pre in
     rw (c .before .before .before .enum-told3 .given .1)
-    (rw (c .common-period .ensures .0), omega (arith, c .common-period .ensures .1 .1, rank-fits (w .0), rank-fits (w .1)))
+    (rw (c .common-period .ensures .0), omega (arith, c .common-period .ensures .1, rank-fits (w .0), rank-fits (w .1)))
 
 pub even-rank-spec : {M : Type 1} → statement M
 even-rank-spec =
@@ -83,6 +86,7 @@ even-rank-spec =
     cast-result-2
     add-result
     common-period-requires
+    cast-result-3
     add-result-2
     returns
     returns-2

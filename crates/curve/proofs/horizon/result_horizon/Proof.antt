@@ -1,8 +1,7 @@
-use Prim.Native.Nat.{ℕ, _+_, max}
+use Prim.Native.Nat.{ℕ, _+_, _≤_, max}
 use mathlib.Core.Path.{sym, ap, ap₂, _∙_}
 use native.Mathlib.Omega.{arith}
 use native.Mathlib.Nat.{mul-le-mul}
-use Rattle.minplus.specs.Curve.{period-fits, rank-fits}
 use Rattle.minplus.specs.Divisor.{lcm, lcm-at-most}
 use Rattle.minplus.specs.Horizon.{horizon}
 use Rattle.curve.specs.Held.{curveOf}
@@ -30,37 +29,32 @@ larger-requires-2 c κs = search needs
 common-period-requires : tie.Need-common-period-requires
 common-period-requires c κs = search needs
 
-cast-common-multiple : tie.Need-cast-common-multiple
-cast-common-multiple c = search needs
-
 common-multiple-requires : tie.Need-common-multiple-requires
-common-multiple-requires c κs =
-    let d = c .before .common-period .ensures .1 in
-    (d .0, omega (arith, mul-le-mul (d .1) (period-fits (c .before .before .before .before .before .before .before .pre .1 .1))))
+common-multiple-requires c κs = search needs
 
 add-result : tie.Need-add-result
 add-result c =
-    let w = c .before .before .before .before .before .before .before .before .pre in
+    let a = c .before .before .before .before .before .before .before .args in
+    let period : a .h .period .0 ≤ 4_294_967_295 = omega arith in
     omega (
       arith,
       c .common-multiple .ensures,
-      lcm-at-most (c .before .before .common-period .result) (c .before .before .before .before .before .before .before .before .args .h .period .0),
-      mul-le-mul (c .before .before .common-period .ensures .1 .1) (period-fits (w .1 .1)),
-      c .before .before .before .larger2 .ensures,
-      c .before .before .before .before .before .larger .ensures,
-      c .before .before .before .before .before .before .n-by-rates .ensures .1,
-      c .before .before .before .before .before .before .before .even-rank .ensures .1,
-      rank-fits (w .1 .1),
+      lcm-at-most (c .before .common-period .result) (a .h .period .0),
+      mul-le-mul (c .before .common-period .ensures .1) period,
+      c .before .before .larger2 .ensures,
+      c .before .before .before .before .larger .ensures,
+      c .before .before .before .before .before .n-by-rates .ensures .1,
+      c .before .before .before .before .before .before .even-rank .ensures .1,
     )
 
 returns : tie.Need-returns
 unfolding horizon
 returns c =
-    let a = c .before .before .before .before .before .before .before .before .args in
-    let rank = c .before .before .before .before .before .larger .ensures ∙ ap₂ max (c .before .before .before .before .before .before .before .even-rank .ensures .0) (c .before .before .before .before .before .before .n-by-rates .ensures .0)
+    let a = c .before .before .before .before .before .before .before .args in
+    let rank = c .before .before .before .before .larger .ensures ∙ ap₂ max (c .before .before .before .before .before .before .even-rank .ensures .0) (c .before .before .before .before .before .n-by-rates .ensures .0)
     ∙ sym (rank-is (operationOf (a .operation)) (curveOf (a .f)) (curveOf (a .g))) in
-    ap₂ _+_ (c .before .before .before .larger2 .ensures ∙ ap (λ (r : ℕ). max r (a .h .rank .0)) rank)
-    (c .common-multiple .ensures ∙ ap (λ (d : ℕ). lcm d (a .h .period .0)) (c .before .before .common-period .ensures .0))
+    ap₂ _+_ (c .before .before .larger2 .ensures ∙ ap (λ (r : ℕ). max r (a .h .rank .0)) rank)
+    (c .common-multiple .ensures ∙ ap (λ (d : ℕ). lcm d (a .h .period .0)) (c .before .common-period .ensures .0))
 
 pub result-horizon-spec : {M : Type 1} → statement M
 result-horizon-spec =
@@ -72,7 +66,6 @@ result-horizon-spec =
     cast-larger
     larger-requires-2
     common-period-requires
-    cast-common-multiple
     common-multiple-requires
     add-result
     returns)

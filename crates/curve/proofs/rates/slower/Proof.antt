@@ -1,5 +1,5 @@
 use native.Mathlib.Omega.{arith}
-use Rattle.curve.proofs.Laws.{product-fits}
+use Rattle.curve.proofs.Laws.{product-below}
 use borrow.Author.Needs.{needs}
 use Rattle.curve.proofs.rates.slower.Statement.{statement}
 use Rattle.curve.proofs.rates.slower.Tie as tie
@@ -11,7 +11,7 @@ cast-result-2 : tie.Need-cast-result-2
 cast-result-2 c = search needs
 
 mul-result : tie.Need-mul-result
-mul-result c = omega (arith, product-fits (c .before .before .args .f .increment) (c .before .before .args .g .period .0) 0 (omega arith) (omega arith) (omega arith))
+mul-result c = record { fits = product-below (omega arith) (omega arith) }
 
 cast-result-3 : tie.Need-cast-result-3
 cast-result-3 c = search needs
@@ -20,7 +20,7 @@ cast-result-4 : tie.Need-cast-result-4
 cast-result-4 c = search needs
 
 mul-result-2 : tie.Need-mul-result-2
-mul-result-2 c = omega (arith, product-fits (c .before .before .before .before .args .g .increment) (c .before .before .before .before .args .f .period .0) 0 (omega arith) (omega arith) (omega arith))
+mul-result-2 c = record { fits = product-below (omega arith) (omega arith) }
 
 returns : tie.Need-returns
 returns c = search needs

@@ -68,7 +68,8 @@ add-t19 : tie.Need-add-t19
 add-t19 c =
     let a = c .before .before .before .before .before .before .before .args in
     let turns : (a .tick .0 - a .rank .0) / a .period .0 < 2 ^ 32 = omega (arith, div-le-self (a .tick .0 - a .rank .0) (a .period .0)) in
-    record { fits = product-fits ((a .tick .0 - a .rank .0) / a .period .0) (a .increment) (c .listed-at3 .result) turns (omega arith) (c .listed-at3 .ensures .1) }
+    let small : a .increment < 2 ^ 32 = omega arith in
+    omega (arith, product-fits turns small, c .listed-at3 .ensures .1)
 
 mul-t17 : tie.Need-mul-t17
 mul-t17 c = omega (arith, add-t19 c)
