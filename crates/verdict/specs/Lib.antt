@@ -2,3 +2,4 @@
 pub mod Found
 pub mod Break
 pub mod Given
+pub mod Means
