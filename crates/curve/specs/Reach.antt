@@ -13,7 +13,7 @@ use mathlib.Core.Path.{_≡_, refl, sym, ap, _∙_}
 use mathlib.Core.Bool.{Bool, true, false}
 use mathlib.Core.List.{List}
 use native.Mathlib.Omega.{arith}
-use native.Mathlib.Nat.{max-comm, mul-le-mul}
+use native.Mathlib.Nat.{max-comm, mul-le-mul, le-of-lt}
 use lib.ListN.{length, getD, take}
 use lib.Seq.{getD-take}
 use Rattle.minplus.specs.Search.{best, best-same}
@@ -112,6 +112,13 @@ extreme-held choose rank period increment l d c start count positive some inside
     (best-same choose _ _ (count - 1) (λ i le.
     ap (λ (v : ℕ). d * v + c * (count - i))
     (C.value-listed (heldOf rank period increment l) positive (start + i) (omega arith) ∙ getD-take (rank + period) l (start + i) 0 (omega arith))))
+
+pub begun-fits : {f g : C.Curve} → Ready f g → (begunAt f g .plus ≤ large) × (begunAt f g .minus ≤ large)
+begun-fits {f} {g} at =
+    let value-fits : C.value g (g .rank) ≤ 256_000_000 = omega (arith, C.value-at-most g (at .right) (g .rank), C.rank-fits (at .right)) in (
+      omega (arith, mul-le-mul (C.period-fits (at .left)) value-fits),
+      omega (arith, mul-le-mul (at .left .increment-fits) (le-of-lt (C.rank-fits (at .right)))),
+    )
 
 -- what is computed of A and B stays far below 2^64
 module _ {f g : C.Curve} {a b : Signed} (at : Crossable f g a b) where

@@ -1,9 +1,8 @@
-use Prim.Native.Nat.{ℕ, _*_, _≤_}
+use Prim.Native.Nat.{ℕ, _*_}
 use mathlib.Core.Path.{ap}
-use native.Mathlib.Omega.{arith}
-use native.Mathlib.Nat.{mul-le-mul, le-of-lt}
-use Rattle.minplus.specs.Curve.{period-fits, rank-fits, value-at-most}
-use Rattle.curve.specs.Held.{curveOf}
+use native.Mathlib.Nat.{lt-of-le-of-lt}
+use lib.Dec.{lit<}
+use Rattle.curve.specs.Reach.{begun-fits}
 use borrow.Author.Needs.{needs}
 use Rattle.curve.proofs.crossing.begun.Statement.{statement}
 use Rattle.curve.proofs.crossing.begun.Tie as tie
@@ -18,29 +17,20 @@ value-at-requires : tie.Need-value-at-requires
 value-at-requires c κs = search needs
 
 mul-t13 : tie.Need-mul-t13
-mul-t13 c =
-    let w = c .before .before .before .before .before .before .before .before .before .before .pre in
-    let value-fits : c .before .value-at .result .0 ≤ 256_000_000 =
-    omega (arith, c .before .value-at .ensures, value-at-most (curveOf (c .before .before .before .before .before .before .before .before .before .before .args .t2)) (w .right) (c .before .before .before .before .before .before .before .before .before .before .args .t2 .rank .0), rank-fits (w .right)) in
-    omega (arith, mul-le-mul (period-fits (w .left)) value-fits)
+mul-t13 c = record { fits = rw (c .before .value-at .ensures) (lt-of-le-of-lt (begun-fits (c .before .before .before .before .before .before .before .before .before .before .pre) .0) (lit< tt)) }
 
 cast-t14 : tie.Need-cast-t14
 cast-t14 c = search needs
 
 mul-t15 : tie.Need-mul-t15
-mul-t15 c = omega (arith, mul-le-mul (c .before .before .before .before .before .before .before .before .before .before .before .pre .left .increment-fits) (le-of-lt (rank-fits (c .before .before .before .before .before .before .before .before .before .before .before .pre .right))))
+mul-t15 c = record { fits = lt-of-le-of-lt (begun-fits (c .before .before .before .before .before .before .before .before .before .before .before .pre) .1) (lit< tt) }
 
 returns : tie.Need-returns
 returns c =
-    let w = c .before .before .before .before .before .before .before .before .before .before .before .pre in
-    let value-fits : c .before .before .value-at .result .0 ≤ 256_000_000 =
-    omega (arith, c .before .before .value-at .ensures, value-at-most (curveOf (c .before .before .before .before .before .before .before .before .before .before .before .args .t2)) (w .right) (c .before .before .before .before .before .before .before .before .before .before .before .args .t2 .rank .0), rank-fits (w .right)) in
-    let a = c .before .before .before .before .before .before .before .before .before .before .before .args in (
+    let a = c .before .before .before .before .before .before .before .before .before .before .before .args in
+    let fits = begun-fits (c .before .before .before .before .before .before .before .before .before .before .before .pre) in (
       ap (λ (v : ℕ). record { plus = a .f .period .0 * v; minus = a .f .increment * a .t2 .rank .0 }) (c .before .before .value-at .ensures),
-      record {
-        plus-fits = omega (arith, mul-le-mul (period-fits (w .left)) value-fits);
-        minus-fits = omega (arith, mul-le-mul (w .left .increment-fits) (le-of-lt (rank-fits (w .right))));
-      },
+      record { plus-fits = rw (c .before .before .value-at .ensures) (fits .0); minus-fits = fits .1 },
     )
 
 pub begun-spec : {M : Type 1} → statement M

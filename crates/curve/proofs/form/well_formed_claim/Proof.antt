@@ -1,4 +1,6 @@
 use borrow.Author.Tests.{not-true, not-false}
+use Rattle.minplus.specs.Curve.{WellFormed}
+use Rattle.curve.specs.Held.{curveOf}
 use Rattle.curve.specs.Claimed.{two-well}
 use Rattle.curve.specs.Told.{no, told-yes, told-no, told-map}
 use borrow.Author.Needs.{needs}
@@ -35,23 +37,24 @@ enum-known-claim-2 c = search needs
 within-requires-2 : tie.Need-within-requires-2
 within-requires-2 c κs = search needs
 
+-- past the first two tests
+both : (c : tie.Else2) → WellFormed (curveOf (c .before .before .before .before .args .f)) × WellFormed (curveOf (c .before .before .before .before .args .g))
+both c = (told-yes (c .before .before .before .well-formed .ensures) (not-false _ (c .before .before .if1 .left)), told-yes (c .before .well-formed2 .ensures) (not-false _ (c .if2 .left)))
+
 returns-3 : tie.Need-returns-3
 returns-3 c =
-    let left = told-yes (c .before .before .before .before .before .before .well-formed .ensures) (not-false _ (c .before .before .before .before .before .if1 .left)) in
-    let right = told-yes (c .before .before .before .before .well-formed2 .ensures) (not-false _ (c .before .before .before .if2 .left)) in
-    rw (c .before .enum-told .given .1) (told-map (λ w. (left, right, w)) (λ w. w .2) (c .well-formed3 .ensures))
+    let two = both (c .before .before .before) in
+    rw (c .before .enum-told .given .1) (told-map (λ w. (two .0, two .1, w)) (λ w. w .2) (c .well-formed3 .ensures))
 
 returns-4 : tie.Need-returns-4
 returns-4 c =
-    let left = told-yes (c .before .before .before .before .before .before .before .well-formed .ensures) (not-false _ (c .before .before .before .before .before .before .if1 .left)) in
-    let right = told-yes (c .before .before .before .before .before .well-formed2 .ensures) (not-false _ (c .before .before .before .before .if2 .left)) in
-    rw (c .before .before .claim .given .1) (told-map (λ le. (left, right, le)) (λ w. w .2) (c .within .ensures))
+    let two = both (c .before .before .before .before) in
+    rw (c .before .before .claim .given .1) (told-map (λ le. (two .0, two .1, le)) (λ w. w .2) (c .within .ensures))
 
 returns-5 : tie.Need-returns-5
 returns-5 c =
-    let left = told-yes (c .before .before .before .before .before .before .before .well-formed .ensures) (not-false _ (c .before .before .before .before .before .before .if1 .left)) in
-    let right = told-yes (c .before .before .before .before .before .well-formed2 .ensures) (not-false _ (c .before .before .before .before .if2 .left)) in
-    rw (c .before .before .claim2 .given .1) (told-map (λ le. (left, right, le)) (λ w. w .2) (c .within2 .ensures))
+    let two = both (c .before .before .before .before) in
+    rw (c .before .before .claim2 .given .1) (told-map (λ le. (two .0, two .1, le)) (λ w. w .2) (c .within2 .ensures))
 
 pub well-formed-claim-spec : {M : Type 1} → statement M
 well-formed-claim-spec =
