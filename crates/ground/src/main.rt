@@ -1,32 +1,106 @@
-// Document 01's ground, its errors that look right and its edges, run: a line for each case.
-mod bounds;
-mod case;
-mod edges;
-mod errors;
-mod ill_formed;
-mod laboratory;
+// Document 01's ground, its errors that look right and its edges, run: standard input has the cases, and each prints a line.
+use curve::Claim;
+use curve::Curve;
+use curve::Named;
+use curve::Ticks;
+use curve::horizon::Horizon;
+use curve::horizon::horizon_of;
+use curve::values::value_at;
+use verdict::Judged;
+use verdict::record_of;
+use verdict::verdict_on;
+
+mod read;
+
+fn field(x: u64) {
+    io::write_all(1, b" ");
+    io::print_decimal(1, x);
+}
+
+fn ill_formed() {
+    io::write_all(1, b" ill formed\n");
+}
+
+fn judge(claim: Claim, f: Curve, g: Curve, h: Curve) {
+    if let Horizon::At(k) = horizon_of(claim, f, g, h) {
+        io::write_all(1, b" horizon");
+        field(k);
+    }
+    match verdict_on(claim, f, g, h) {
+        Judged::IllFormed => {
+            ill_formed();
+        }
+        Judged::Verdict(v) => {
+            let r = record_of(v);
+            io::write_all(1, b" record");
+            field(r.code as u64);
+            field(r.tick.0 as u64);
+            field(r.left.0);
+            field(r.right.0);
+            io::write_all(1, b"\n");
+        }
+    }
+}
+
+fn value(f: Curve, tick: u32) {
+    io::write_all(1, b" value");
+    let v = value_at(f.rank, f.period, f.increment, &f.listed, Ticks(tick));
+    field(v.0);
+    io::write_all(1, b"\n");
+}
+
+// Kind 0 asks for the left curve's value at tick X. A curve that the line lacks is read as one of period 0, which is ill-formed.
+fn answer(line: &[u8], kind: u32, x: u32) {
+    let left = read::past(line, 0, b'|');
+    let right = read::past(line, left, b'|');
+    let claimed = read::past(line, right, b'|');
+    let f = read::curve_at(line, left);
+    if kind == 0 {
+        value(f, x);
+        return;
+    }
+    match read::claim(kind, x) {
+        Named::Claim(claim) => judge(
+            claim,
+            f,
+            read::curve_at(line, right),
+            read::curve_at(line, claimed),
+        ),
+        Named::XTooLarge => ill_formed(),
+        Named::UnknownKind => {
+            io::write_all(1, b" unknown kind\n");
+        }
+    }
+}
+
+fn case(line: &[u8]) {
+    if line.len() == 0 {
+        return;
+    }
+    if line[0] == b'#' {
+        return;
+    }
+    let name = read::find(line, 0, b' ');
+    io::write_all(1, &line[..name]);
+    let kind = read::number_at(line, name);
+    let x = read::number_at(line, kind.next);
+    answer(line, kind.value, x.value);
+}
+
+fn cases(input: &[u8]) {
+    let mut at: usize = 0;
+    while at < input.len() {
+        let end = read::find(input, at, b'\n');
+        case(&input[at..end]);
+        at = end;
+        if at < input.len() {
+            at += 1;
+        }
+    }
+}
 
 fn main() {
-    laboratory::table();
-    laboratory::pair();
-    errors::last_tick();
-    errors::longest_search();
-    errors::crossing();
-    errors::empty_minimum();
-    errors::whole_number_rates();
-    errors::unjudged();
-    edges::values();
-    edges::codes();
-    edges::places();
-    edges::limits();
-    edges::far_horizons();
-    edges::crossings();
-    edges::claimed();
-    bounds::codes();
-    bounds::smallest_and_largest();
-    bounds::farthest();
-    bounds::limits();
-    bounds::order();
-    ill_formed::curves();
-    ill_formed::deviations();
+    let mut input = io::large_buffer();
+    let n = io::read_full(0, &mut input);
+    cases(&input[..n]);
 }

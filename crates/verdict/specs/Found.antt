@@ -34,7 +34,7 @@ differs op f g h n = not (eqb (dueIn op f g n) (tableAt h n))
 
 -- not so of the two values at one tick: at the last ticks their sum is larger
 pub record Summable (f g : List ℕ) (tried : ℕ) : Type 0 where
-  pub sums : (u v : ℕ) → u + v < tried → tableAt f u + tableAt g v < 4294967296
+  pub sums : (u v : ℕ) → u + v < tried → tableAt f u + tableAt g v < 4_294_967_296
 
 -- At, of plain numbers
 abbrev pub atTick : ℕ → ℕ → ℕ → Found
