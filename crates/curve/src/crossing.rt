@@ -18,7 +18,7 @@ struct Signed {
     minus: u64,
 }
 
-pub fn larger(a: u64, b: u64) -> u64
+pub(crate) fn larger(a: u64, b: u64) -> u64
     ensures { λ r. ⌜ r ≡ max a b ⌝ }
 {
     if a < b { b } else { a }
@@ -169,7 +169,7 @@ fn crossing_n(operation: Operation, f: Curve, g: Curve) -> u64
 }
 
 // N, with the two swapped if g is slower.
-pub fn n_by_rates(operation: Operation, f: Curve, g: Curve) -> u64
+pub(crate) fn n_by_rates(operation: Operation, f: Curve, g: Curve) -> u64
     requires { ⌜ WellFormed (curveOf f) × WellFormed (curveOf g) ⌝ }
     ensures { λ r. ⌜ r ≡ Def.byRates (curveOf f) (curveOf g) 0 (crossingN (operationOf operation)) ⌝ }
     ensures { λ r. ⌜ r ≤ far ⌝ }

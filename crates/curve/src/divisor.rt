@@ -2,14 +2,14 @@
 ghost use mathlib.Core.Path.{_≡_};
 ghost use Rattle.minplus.specs.Divisor.{gcd, lcm};
 
-pub fn common_divisor(a: u32, b: u32) -> u32
+pub(crate) fn common_divisor(a: u32, b: u32) -> u32
     ensures { λ r. ⌜ r ≡ gcd a b ⌝ }
 {
     if b == 0 { a } else { common_divisor(b, a % b) }
 }
 
 // The divisor is 0 where both numbers are, and so is their multiple.
-pub fn common_multiple(a: u32, b: u32) -> u64
+pub(crate) fn common_multiple(a: u32, b: u32) -> u64
     ensures { λ r. ⌜ r ≡ lcm a b ⌝ }
 {
     let divisor = common_divisor(a, b);

@@ -56,7 +56,7 @@ fn within(deviation: Deviation) -> bool
 }
 
 // Kinds 4 to 7 have no claimed curve: what stands in its place is not looked at.
-pub fn well_formed_claim(claim: Claim, f: Curve, g: Curve, h: Curve) -> bool
+pub(crate) fn well_formed_claim(claim: Claim, f: Curve, g: Curve, h: Curve) -> bool
     ensures { λ r. ⌜ Told (WellFormedClaim (claimOf claim f g h)) r ⌝ }
 {
     if !well_formed(f) {

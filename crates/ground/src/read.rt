@@ -20,7 +20,7 @@ struct Run {
 }
 
 // The place of a byte from `from` on, or the end.
-pub fn find(s: &[u8], from: usize, byte: u8) -> usize
+pub(crate) fn find(s: &[u8], from: usize, byte: u8) -> usize
     requires { ⌜ from ≤ length (now s) ⌝ }
     ensures { λ r. ⌜ from ≤ r ⌝ }
     ensures { λ r. ⌜ r ≤ length (now (s .entry)) ⌝ }
@@ -36,7 +36,7 @@ pub fn find(s: &[u8], from: usize, byte: u8) -> usize
 }
 
 // The place after a byte, from `from` on, or the end.
-pub fn past(s: &[u8], from: usize, byte: u8) -> usize {
+pub(crate) fn past(s: &[u8], from: usize, byte: u8) -> usize {
     let mut i = from;
     while i < s.len() {
         if s[i] == byte {
@@ -85,7 +85,7 @@ fn digits(s: &[u8], from: usize) -> Number {
     Number { value, next }
 }
 
-pub fn number_at(s: &[u8], from: usize) -> Number {
+pub(crate) fn number_at(s: &[u8], from: usize) -> Number {
     digits(s, past_spaces(s, from))
 }
 
@@ -142,7 +142,7 @@ fn values(s: &[u8], from: usize) -> [u32; Curve::MAX_LISTED] {
 }
 
 // T, d and c, a colon, and the values.
-pub fn curve_at(line: &[u8], from: usize) -> Curve {
+pub(crate) fn curve_at(line: &[u8], from: usize) -> Curve {
     let rank = number_at(line, from);
     let period = number_at(line, rank.next);
     let increment = number_at(line, period.next);
@@ -155,7 +155,7 @@ pub fn curve_at(line: &[u8], from: usize) -> Curve {
     )
 }
 
-pub fn claim(kind: u32, x: u32) -> Named {
+pub(crate) fn claim(kind: u32, x: u32) -> Named {
     if 255 < kind {
         return Named::UnknownKind;
     }

@@ -19,7 +19,7 @@ use curve::values::table;
 use curve::values::value_at;
 
 // The first tick that breaks the rule, with its left and its right value.
-pub enum Found {
+pub(crate) enum Found {
     At {
         tick: Ticks,
         left: Units,
@@ -129,7 +129,7 @@ fn first_over(deviation: Deviation, f: Curve, g: Curve, horizon: usize) -> Found
 }
 
 // The first tried tick that breaks the claim's rule. Kinds 1 to 3 try the horizon too.
-pub fn first_break(claim: Claim, f: Curve, g: Curve, h: Curve, horizon: usize) -> Found
+pub(crate) fn first_break(claim: Claim, f: Curve, g: Curve, h: Curve, horizon: usize) -> Found
     requires { ⌜ Judgeable (claimOf claim f g h) horizon ⌝ }
     ensures { λ r. ⌜ r ≡ breakOf (claimOf claim f g h) ⌝ }
 {
@@ -158,7 +158,7 @@ fn holds(deviation: Deviation, f: Curve, g: Curve, horizon: usize) -> bool
 }
 
 // Kinds 5 and 7: X > 0, and no tried tick breaks the rule for X-1.
-pub fn less_holds(deviation: Deviation, f: Curve, g: Curve, horizon: usize) -> bool
+pub(crate) fn less_holds(deviation: Deviation, f: Curve, g: Curve, horizon: usize) -> bool
     requires { ⌜ Judgeable (boundOf deviation exactly f g) horizon ⌝ }
     ensures { λ r. ⌜ r ≡ lessHolds (boundOf deviation exactly f g) ⌝ }
 {
