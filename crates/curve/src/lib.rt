@@ -1,6 +1,5 @@
 // Curves and claims as values, and what everything above asks of them: a value at a tick, a table of values, the horizon.
 ghost use mathlib.Core.Path.{_≡_};
-ghost use Prim.Native.Nat.{ℕ, _+_, _<_, _≤_};
 ghost use Rattle.curve.specs.Held.{padded};
 ghost use Rattle.curve.specs.Kinds.{namedBy, limitedBy};
 

@@ -1,6 +1,6 @@
 // A curve's value at a tick, and the table of its first values.
 ghost use mathlib.Core.Path.{_≡_};
-ghost use Prim.Native.Nat.{ℕ, _+_, _<_, _≤_, _^_, min};
+ghost use Prim.Native.Nat.{_<_, _^_, min};
 ghost use Rattle.minplus.specs.Curve.{value};
 ghost use lib.ListN.{getD, take};
 ghost use Rattle.curve.specs.Held.{heldOf, curveOf};

@@ -1,6 +1,6 @@
 // The worst-case convolution claim: its horizon is 4,096 and it is accepted, so that no split of no tick is left out. It is judged once
 // for each byte of standard input, at most 4,096 times. bench/ holds it against C.
-ghost use Prim.Native.Nat.{_≤_, _<_};
+ghost use Prim.Native.Nat.{_<_};
 use curve::Claim;
 use curve::Curve;
 use curve::Operation;
