@@ -5,7 +5,7 @@
 --     judgedOf              the answer on a claim: a verdict, or none
 --     judgement             what it has to be: none for a claim that is not well formed (judgement-none), else its verdict (judgement-some)
 --     verdict-far           which is "not judged" beyond the limit,
---     ordered, verdict-near and within it goes by what the tests find, in the order of the codes
+--     ordered, verdict-near     and within it goes by what the tests find, in the order of the codes
 use Prim.Native.Nat.{ℕ, _<_}
 use mathlib.Core.Path.{_≡_, refl, sym, ap, _∙_}
 use mathlib.Core.Bool.{Bool, true, false}
