@@ -1,8 +1,9 @@
 -- The claim of a kind, by document 01's number.
 --
---     limitedBy            with an X that may be too large
---     namedBy              the claim of a number and an X
---     kindOf, named-back   namedBy undoes minplus's kindNumber: the numbers stand there alone
+--     kindOf               a claim's kind: its number is minplus's kindNumber, and stands there alone
+--     limitedBy            a claim with an X that may be too large
+--     numbers, namedBy     whether a number is a claim's; the claim of a number and an X
+--     xOf, named-back      of a claim's own number and X it is that claim
 use Prim.Native.Nat.{ℕ, _≤_}
 use mathlib.Core.Path.{_≡_, refl}
 use mathlib.Core.Bool.{Bool, true, false}
@@ -18,6 +19,11 @@ use Rattle.curve.specs.declared.Named.the-variants.{UnknownKind, XTooLar
 use Rattle.curve.specs.declared.Named.the-variants as named
 use Rattle.curve.specs.Claimed.{operationOf, deviationOf, amountOf}
 
+abbrev pub kindOf : Claim → M.Kind
+kindOf (Equals o) = M.result (operationOf o)
+kindOf (AtMost x) = M.bound (deviationOf x) M.atMost
+kindOf (Exactly x) = M.bound (deviationOf x) M.exactly
+
 unfoldable pub limitedBy : ℕ → Claim → Named
 limitedBy x c = elim (ltb M.maxX x) [ true ↦ XTooLarge | false ↦ named.Claim c ]
 
@@ -26,21 +32,21 @@ abbrev pub orElse : Bool → Named → Named → Named
 orElse true this other = this
 orElse false this other = other
 
-unfoldable pub namedBy : ℕ → ℕ → Named
-unfolding limitedBy
-namedBy kind x =
-    orElse (eqb kind 1) (named.Claim (Equals Sum))
-    (orElse (eqb kind 2) (named.Claim (Equals Minimum))
-    (orElse (eqb kind 3) (named.Claim (Equals Convolution))
-    (orElse (eqb kind 4) (limitedBy x (AtMost (Delay (record { 0 = x }))))
-    (orElse (eqb kind 5) (limitedBy x (Exactly (Delay (record { 0 = x }))))
-    (orElse (eqb kind 6) (limitedBy x (AtMost (Backlog (record { 0 = x }))))
-    (orElse (eqb kind 7) (limitedBy x (Exactly (Backlog (record { 0 = x })))) UnknownKind))))))
+abbrev pub numbers : ℕ → Claim → Bool
+numbers kind c = eqb kind (M.kindNumber (kindOf c))
 
-abbrev pub kindOf : Claim → M.Kind
-kindOf (Equals o) = M.result (operationOf o)
-kindOf (AtMost x) = M.bound (deviationOf x) M.atMost
-kindOf (Exactly x) = M.bound (deviationOf x) M.exactly
+unfoldable pub namedBy : ℕ → ℕ → Named
+unfolding limitedBy M.kindNumber
+namedBy kind x =
+    let delay = Delay (record { 0 = x }) in
+    let backlog = Backlog (record { 0 = x }) in
+    orElse (numbers kind (Equals Sum)) (named.Claim (Equals Sum))
+    (orElse (numbers kind (Equals Minimum)) (named.Claim (Equals Minimum))
+    (orElse (numbers kind (Equals Convolution)) (named.Claim (Equals Convolution))
+    (orElse (numbers kind (AtMost delay)) (limitedBy x (AtMost delay))
+    (orElse (numbers kind (Exactly delay)) (limitedBy x (Exactly delay))
+    (orElse (numbers kind (AtMost backlog)) (limitedBy x (AtMost backlog))
+    (orElse (numbers kind (Exactly backlog)) (limitedBy x (Exactly backlog)) UnknownKind))))))
 
 -- X of a claim, 0 where it has none
 abbrev pub xOf : Claim → ℕ
@@ -49,7 +55,7 @@ xOf (AtMost x) = amountOf x
 xOf (Exactly x) = amountOf x
 
 pub named-back : (c : Claim) → xOf c ≤ M.maxX → namedBy (M.kindNumber (kindOf c)) (xOf c) ≡ named.Claim c
-unfolding namedBy limitedBy M.kindNumber
+unfolding namedBy
 named-back (Equals Sum) fits = refl
 named-back (Equals Minimum) fits = refl
 named-back (Equals Convolution) fits = refl

@@ -8,17 +8,17 @@
 --     rank-is                   R is the greater of the two
 --     horizonAnswer             the answer: no horizon for a claim that is not well formed (horizon-none, ill-formed), else its
 --                               horizon (horizon-at, at-horizon)
-use Prim.Native.Nat.{ℕ, zero, suc, _+_, _-_, _*_, _≤_, _<_, min, max}
+use Prim.Native.Nat.{ℕ, suc, _+_, _-_, _*_, _≤_, _<_, min, max}
 use mathlib.Core.Path.{_≡_, refl, sym, ap, _∙_}
 use mathlib.Core.Bool.{Bool, true, false}
 use mathlib.Core.List.{List}
 use native.Mathlib.Omega.{arith}
 use native.Mathlib.Nat.{max-comm, mul-le-mul, le-of-lt}
-use lib.ListN.{length, getD, take}
+use lib.ListN.{length, getD}
 use lib.Seq.{getD-take}
-use Rattle.minplus.specs.Search.{best, best-same}
+use Rattle.minplus.specs.Search.{best-same}
 use Rattle.minplus.specs.Curve as C
-use Rattle.minplus.specs.Divisor.{lcm, lcm-comm}
+use Rattle.minplus.specs.Divisor.{lcm-comm}
 use Rattle.minplus.specs.Claim as M
 use Rattle.minplus.specs.Horizon as H
 use Rattle.curve.specs.declared.crossing.Signed.{Signed}

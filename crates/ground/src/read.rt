@@ -37,25 +37,21 @@ pub(crate) fn find(s: &[u8], from: usize, byte: u8) -> usize
 
 // The place after a byte, from `from` on, or the end.
 pub(crate) fn past(s: &[u8], from: usize, byte: u8) -> usize {
-    let mut i = from;
-    while i < s.len() {
-        if s[i] == byte {
-            return i + 1;
-        }
-        i += 1;
+    if s.len() <= from {
+        return from;
     }
-    i
+    let at = find(s, from, byte);
+    if at < s.len() { at + 1 } else { at }
 }
 
-fn past_spaces(s: &[u8], from: usize) -> usize {
-    let mut i = from;
-    while i < s.len() {
-        if s[i] != b' ' {
-            return i;
+// One space stands before each part.
+fn past_space(s: &[u8], from: usize) -> usize {
+    if from < s.len() {
+        if s[from] == b' ' {
+            return from + 1;
         }
-        i += 1;
     }
-    i
+    from
 }
 
 // What 32 bits don't hold becomes the largest number that they do.
@@ -86,12 +82,12 @@ fn digits(s: &[u8], from: usize) -> Number {
 }
 
 pub(crate) fn number_at(s: &[u8], from: usize) -> Number {
-    digits(s, past_spaces(s, from))
+    digits(s, past_space(s, from))
 }
 
 // A value alone, or the value, * and how many times it is listed. 0 times where no digit stands.
 fn run_at(s: &[u8], from: usize) -> Run {
-    let start = past_spaces(s, from);
+    let start = past_space(s, from);
     let first = digits(s, start);
     let end = first.next;
     if end == start {

@@ -1,9 +1,6 @@
 use Prim.Native.Nat.{_-_, _≤_}
 use native.Mathlib.Omega.{arith}
 use lib.ListN.{length}
-use Prim.Native.Nat.{_-_, _≤_}
-use native.Mathlib.Omega.{arith}
-use lib.ListN.{length}
 use Rattle.ground.proofs.read.find.Statement.{statement}
 use Rattle.ground.proofs.read.find.Tie as tie
 
