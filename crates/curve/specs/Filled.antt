@@ -4,6 +4,8 @@
 --     filled F room k    the array of that room after k stores
 --     filled-none, filled-more     before the first store, and after one more
 --     filled-length, filled-at     how long it is, and what is stored
+--     filled-taken       the stored part of it; filled-same: it depends on what is stored alone
+--     length-listOf, listOf-at     how long that list is, and what is at a place
 use Prim.Native.Nat.{ℕ, zero, suc, _+_, _-_, _≤_, _<_}
 use mathlib.Core.Path.{_≡_, refl, sym, ap, _∙_}
 use mathlib.Core.List.{List, [], _∷_, _++_, append-assoc}
@@ -11,8 +13,8 @@ use mathlib.Core.Logic.{_⊎_, inl, inr}
 use native.Mathlib.Omega.{arith}
 use native.Mathlib.Nat.{eq-or-lt-of-le, le-of-suc-le-suc, sub-zero}
 use native.Mathlib.Numerals.{add-one}
-use lib.ListN.{length, getD, set, replicate, length-append, length-replicate, List·getD-append}
-use lib.Seq.{set-at, getD-at}
+use lib.ListN.{length, getD, set, take, replicate, length-append, length-replicate, List·getD-append}
+use lib.Seq.{set-at, getD-at, take-at}
 
 unfoldable pub listOf : (ℕ → ℕ) → ℕ → List ℕ
 listOf F zero = []
@@ -22,12 +24,12 @@ unfoldable pub filled : (ℕ → ℕ) → ℕ → ℕ → List ℕ
 unfolding listOf
 filled F room k = listOf F k ++ replicate {A = ℕ} (room - k) 0
 
-length-listOf : (F : ℕ → ℕ) (k : ℕ) → length (listOf F k) ≡ k
+pub length-listOf : (F : ℕ → ℕ) (k : ℕ) → length (listOf F k) ≡ k
 unfolding listOf
 length-listOf F zero = refl
 length-listOf F (suc k) = simp (length-append, length-listOf F k) (omega arith)
 
-listOf-at : (F : ℕ → ℕ) (k i : ℕ) → i < k → getD (listOf F k) i 0 ≡ F i
+pub listOf-at : (F : ℕ → ℕ) (k i : ℕ) → i < k → getD (listOf F k) i 0 ≡ F i
 unfolding listOf
 listOf-at F zero i lt = absurd (omega (arith, lt))
 listOf-at F (suc k) i lt = go (eq-or-lt-of-le (le-of-suc-le-suc lt)) (listOf-at F k i)
@@ -57,3 +59,16 @@ pub filled-at : (F : ℕ → ℕ) (room k i : ℕ) → i < k → getD (filled F 
 unfolding filled
 filled-at F room k i lt =
     List·getD-append (listOf F k) (replicate {A = ℕ} (room - k) 0) 0 i (omega (arith, length-listOf F k)) ∙ listOf-at F k i lt
+
+pub filled-taken : (F : ℕ → ℕ) (room k : ℕ) → take k (filled F room k) ≡ listOf F k
+unfolding filled
+filled-taken F room k = take-at (listOf F k) (replicate {A = ℕ} (room - k) 0) k (length-listOf F k)
+
+listOf-same : (F G : ℕ → ℕ) (k : ℕ) → ((n : ℕ) → n < k → F n ≡ G n) → listOf F k ≡ listOf G k
+unfolding listOf
+listOf-same F G zero same = refl
+listOf-same F G (suc k) same = rw (listOf-same F G k (λ n lt. same n (omega arith)), same k (omega arith))
+
+pub filled-same : (F G : ℕ → ℕ) (room k : ℕ) → ((n : ℕ) → n < k → F n ≡ G n) → filled F room k ≡ filled G room k
+unfolding filled
+filled-same F G room k same = rw (listOf-same F G k same)

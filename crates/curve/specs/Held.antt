@@ -1,7 +1,8 @@
 -- The curve that the code's values stand for.
 --
 --     heldOf, curveOf                T, d, c and the first T + d places of an array, as a curve of the crate minplus
---     padded                         a list in the working array; held-whole: what is put in is what is held
+--     padded                         a list in the working array; held-whole: what is put in is what is held; padded-listed: F(0) to F(k-1) in it
+--     holding                        a curve in the working copy; holding-back: of a well-formed one, it is that curve
 --     Listed                         document 01's limits on the listed values, for a loop that looks at one more each turn
 --     listed-none, listed-more       before the first turn, and after one more
 --     held-listed, listed-held       of the working array, exactly the values that count have to keep them
@@ -15,7 +16,7 @@ use lib.ListN.{take, getD, length}
 use lib.Seq.{ext-getD, getD-take, length-take-le}
 use Rattle.minplus.specs.Curve as C
 use Rattle.curve.specs.declared.Curve.{Curve}
-use Rattle.curve.specs.Filled.{filled, filled-length, filled-at}
+use Rattle.curve.specs.Filled.{listOf, filled, length-listOf, listOf-at, filled-length, filled-at, filled-same}
 
 abbrev pub heldOf : ℕ → ℕ → ℕ → List ℕ → C.Curve
 heldOf rank period increment listed = record { rank = rank; period = period; increment = increment; listed = take (rank + period) listed }
@@ -27,7 +28,15 @@ curveOf f = heldOf (f .rank .0) (f .period .0) (f .increment) (f .listed)
 abbrev pub padded : List ℕ → List ℕ
 padded l = filled (λ n. getD l n 0) C.maxListed (min (length l) C.maxListed)
 
+abbrev pub holding : C.Curve → Curve
+holding f = record { rank = record { 0 = f .rank }; period = record { 0 = f .period }; increment = f .increment; listed = padded (f .listed) }
+
 -- ---- laws
+
+pub padded-listed : (F : ℕ → ℕ) (k : ℕ) → padded (listOf F k) ≡ filled F C.maxListed (min k C.maxListed)
+padded-listed F k =
+    rw (length-listOf F k)
+    (filled-same (λ n. getD (listOf F k) n 0) F C.maxListed (min k C.maxListed) (λ n lt. listOf-at F k n (omega arith)))
 
 -- what is put in is what is held
 module _ (rank period increment : ℕ) (listed : List ℕ) (whole : length listed ≡ rank + period) (fits : rank + period ≤ C.maxListed) where
@@ -40,6 +49,9 @@ module _ (rank period increment : ℕ) (listed : List ℕ) (whole : length liste
       ap (λ (l : List ℕ). record { rank = rank; period = period; increment = increment; listed = l })
       (ext-getD 0 (take (rank + period) (padded listed)) listed (taken ∙ sym whole)
       (λ i lt. getD-take (rank + period) (padded listed) i 0 (omega arith) ∙ filled-at F C.maxListed (min (length listed) C.maxListed) i (omega arith)))
+
+pub holding-back : (f : C.Curve) → C.WellFormed f → curveOf (holding f) ≡ f
+holding-back f w = held-whole (f .rank) (f .period) (f .increment) (f .listed) (w .listed-whole) (w .count-fits)
 
 -- what document 01 asks of the first count values. With a 0 before it the first value falls below nothing
 pub record Listed (l : List ℕ) (count : ℕ) : Type 0 where

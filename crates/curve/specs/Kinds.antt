@@ -2,12 +2,14 @@
 --
 --     kindOf               a claim's kind: its number is minplus's kindNumber, and stands there alone
 --     limitedBy            a claim with an X that may be too large
---     numbers, namedBy     whether a number is a claim's; the claim of a number and an X
+--     claimWith            the claim of a kind with an X: it has that kind (kind-with)
+--     namedAs, namedBy     the answer for a kind, if there is one, and an X; for a number and an X
 --     xOf, named-back      of a claim's own number and X it is that claim
 use Prim.Native.Nat.{ℕ, _≤_}
 use mathlib.Core.Path.{_≡_, refl}
-use mathlib.Core.Bool.{Bool, true, false}
-use lib.Dec.{ltb, eqb}
+use mathlib.Core.Bool.{true, false}
+use mathlib.Core.Option.{Option, none, some}
+use lib.Dec.{ltb}
 use borrow.Author.Tests.{le-ltb}
 use Rattle.minplus.specs.Claim as M
 use Rattle.curve.specs.declared.Operation.the-variants.{Sum, Minimum, Convolution}
@@ -27,32 +29,41 @@ kindOf (Exactly x) = M.bound (deviationOf x) M.exactly
 unfoldable pub limitedBy : ℕ → Claim → Named
 limitedBy x c = elim (ltb M.maxX x) [ true ↦ XTooLarge | false ↦ named.Claim c ]
 
--- the first, if the test passes
-abbrev pub orElse : Bool → Named → Named → Named
-orElse true this other = this
-orElse false this other = other
+-- the claim of a kind with an X; kinds 1 to 3 have none
+abbrev pub claimWith : M.Kind → ℕ → Claim
+claimWith (M.result M.sum) x = Equals Sum
+claimWith (M.result M.minimum) x = Equals Minimum
+claimWith (M.result M.convolution) x = Equals Convolution
+claimWith (M.bound M.delay M.atMost) x = AtMost (Delay (record { 0 = x }))
+claimWith (M.bound M.delay M.exactly) x = Exactly (Delay (record { 0 = x }))
+claimWith (M.bound M.backlog M.atMost) x = AtMost (Backlog (record { 0 = x }))
+claimWith (M.bound M.backlog M.exactly) x = Exactly (Backlog (record { 0 = x }))
 
-abbrev pub numbers : ℕ → Claim → Bool
-numbers kind c = eqb kind (M.kindNumber (kindOf c))
+-- the answer for a kind, if there is one
+unfoldable pub namedAs : Option M.Kind → ℕ → Named
+unfolding limitedBy
+namedAs none x = UnknownKind
+namedAs (some (M.result o)) x = named.Claim (claimWith (M.result o) x)
+namedAs (some (M.bound δ t)) x = limitedBy x (claimWith (M.bound δ t) x)
 
 unfoldable pub namedBy : ℕ → ℕ → Named
-unfolding limitedBy M.kindNumber
-namedBy kind x =
-    let delay = Delay (record { 0 = x }) in
-    let backlog = Backlog (record { 0 = x }) in
-    orElse (numbers kind (Equals Sum)) (named.Claim (Equals Sum))
-    (orElse (numbers kind (Equals Minimum)) (named.Claim (Equals Minimum))
-    (orElse (numbers kind (Equals Convolution)) (named.Claim (Equals Convolution))
-    (orElse (numbers kind (AtMost delay)) (limitedBy x (AtMost delay))
-    (orElse (numbers kind (Exactly delay)) (limitedBy x (Exactly delay))
-    (orElse (numbers kind (AtMost backlog)) (limitedBy x (AtMost backlog))
-    (orElse (numbers kind (Exactly backlog)) (limitedBy x (Exactly backlog)) UnknownKind))))))
+unfolding namedAs M.kindBy
+namedBy kind x = namedAs (M.kindBy kind) x
 
 -- X of a claim, 0 where it has none
 abbrev pub xOf : Claim → ℕ
 xOf (Equals o) = 0
 xOf (AtMost x) = amountOf x
 xOf (Exactly x) = amountOf x
+
+pub kind-with : (κ : M.Kind) (x : ℕ) → kindOf (claimWith κ x) ≡ κ
+kind-with (M.result M.sum) x = refl
+kind-with (M.result M.minimum) x = refl
+kind-with (M.result M.convolution) x = refl
+kind-with (M.bound M.delay M.atMost) x = refl
+kind-with (M.bound M.delay M.exactly) x = refl
+kind-with (M.bound M.backlog M.atMost) x = refl
+kind-with (M.bound M.backlog M.exactly) x = refl
 
 pub named-back : (c : Claim) → xOf c ≤ M.maxX → namedBy (M.kindNumber (kindOf c)) (xOf c) ≡ named.Claim c
 unfolding namedBy

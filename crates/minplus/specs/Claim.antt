@@ -8,16 +8,19 @@
 --     Bound                f stays within what is allowed, at every tick
 --     VerticalDeviation    the trade's definition of the backlog, which kind 7 claims (backlog-exact)
 --     Kind, kindNumber     the seven kinds and their numbers
+--     kindBy               the kind of a number, if it is one's: exactly what kindNumber says (kind-by, kind-none)
 --     Claim, kindOf        a claim over its curves, and its kind
 --     WellFormedClaim      its curves are well formed and X is within its limit; wellFormedClaim is the same as a test (well-formed-claim)
 --     Claimed              what it says: the table's right column
 use Prim.Native.Nat.{ℕ, _+_, _-_, _≤_, _<_, min}
-use mathlib.Core.Path.{_≡_}
+use mathlib.Core.Path.{_≡_, refl}
 use mathlib.Core.Bool.{Bool, true, _&&_}
+use mathlib.Core.List.{List, [], _∷_}
+use mathlib.Core.Option.{Option, none, some}
 use mathlib.Core.Logic.{_↔_}
 use lib.Dec.{leb}
 use borrow.Author.Tests.{leb-true, le-leb}
-use Rattle.minplus.specs.Search.{both-true}
+use Rattle.minplus.specs.Search.{both-true, numbered, numbered-so, numbered-none}
 use Rattle.minplus.specs.Curve.{Curve, WellFormed, wellFormed, well-formed, value}
 use Rattle.minplus.specs.Conv.{conv}
 
@@ -61,6 +64,14 @@ kindNumber (bound delay exactly) = 5
 kindNumber (bound backlog atMost) = 6
 kindNumber (bound backlog exactly) = 7
 
+abbrev pub kinds : List Kind
+kinds =
+    result sum ∷ result minimum ∷ result convolution ∷ bound delay atMost ∷ bound delay exactly ∷ bound backlog atMost ∷ bound backlog exactly ∷ []
+
+unfoldable pub kindBy : ℕ → Option Kind
+unfolding numbered kindNumber
+kindBy k = numbered kindNumber kinds k
+
 pub data Claim : Type 0 where
   equals : Operation → (f g h : Curve) → Claim
   bounds : Deviation → Tightness → (f g : Curve) (X : ℕ) → Claim
@@ -88,6 +99,23 @@ abbrev pub Claimed : Claim → Type 0
 Claimed (equals op f g h) = (n : ℕ) → value h n ≡ due op (value f) (value g) n
 Claimed (bounds δ atMost f g X) = Bound δ (value f) (value g) X
 Claimed (bounds δ exactly f g X) = Bound δ (value f) (value g) X × (0 < X → ¬ (Bound δ (value f) (value g) (X - 1)))
+
+pub kind-by : (k : ℕ) (κ : Kind) → (kindBy k ≡ some κ) ↔ (k ≡ kindNumber κ)
+unfolding kindBy
+kind-by k κ = (numbered-so kindNumber kinds k κ, λ e. rw e (back κ))
+  where
+    back : (κ : Kind) → kindBy (kindNumber κ) ≡ some κ
+    back (result sum) = refl
+    back (result minimum) = refl
+    back (result convolution) = refl
+    back (bound delay atMost) = refl
+    back (bound delay exactly) = refl
+    back (bound backlog atMost) = refl
+    back (bound backlog exactly) = refl
+
+pub kind-none : (k : ℕ) → ((κ : Kind) → ¬ (k ≡ kindNumber κ)) → kindBy k ≡ none
+unfolding kindBy
+kind-none = numbered-none kindNumber kinds
 
 pub well-formed-claim : (c : Claim) → (wellFormedClaim c ≡ true) ↔ WellFormedClaim c
 unfolding wellFormedClaim

@@ -7,11 +7,15 @@
 --     greatest h k      the greatest of them, likewise (greatest-upper, greatest-attained)
 --     firstBelow p k    the first n < k with p(n), if there is one; IsFirst says so (first-below)
 --     allBelow p k      p(n) for every n < k (all-below)
+--     numbered number l k     the first of l that has the number k: it has it (numbered-so); none, if none has it (numbered-none)
 use Prim.Native.Nat.{ℕ, zero, suc, _-_, _≤_, _<_, min, max}
 use mathlib.Core.Path.{_≡_, refl, sym, ap, _∙_, subst}
 use mathlib.Core.Bool.{Bool, true, false, _&&_, false≢true, true≢false}
 use mathlib.Core.Logic.{_↔_, _⊎_, inl, inr}
-use mathlib.Core.Option.{Option, none, some}
+use mathlib.Core.List.{List, [], _∷_}
+use mathlib.Core.Option.{Option, none, some, Option·some-injective}
+use lib.Dec.{eqb}
+use borrow.Author.Tests.{eqb-true, ne-eqb}
 use native.Mathlib.Omega.{arith}
 use native.Mathlib.Nat.{eq-or-lt-of-le, le-of-suc-le-suc, le-refl, min-le-right, le-max-right, min-eq-left, min-eq-right, max-eq-left, max-eq-right, le-of-lt, lt-of-not-le, le-antisymm}
 use native.Mathlib.Decide.{decLe}
@@ -135,3 +139,23 @@ all-below p (suc k) =
       λ e. below-suc {S = λ m. p m ≡ true} (rest .0 (both .0 e .0)) (both .0 e .1),
       λ all. both .1 (rest .1 (λ n lt. all n (omega arith)), all k (omega arith)),
     )
+
+unfoldable pub numbered : {A : Type 0} → (A → ℕ) → List A → ℕ → Option A
+numbered number [] k = none
+numbered number (a ∷ rest) k = elim (eqb k (number a)) [ true ↦ some a | false ↦ numbered number rest k ]
+
+module _ {A : Type 0} (number : A → ℕ) where
+  pub numbered-so : (l : List A) (k : ℕ) (a : A) → numbered number l k ≡ some a → k ≡ number a
+  unfolding numbered
+  numbered-so [] k a e = let z : _≡_ {A = ℕ} 0 1 = cc in absurd (omega (arith, z))
+  numbered-so (a′ ∷ rest) k a e = go (eqb k (number a′)) refl (numbered-so rest k a) e
+    where
+      go : (b : Bool) → eqb k (number a′) ≡ b → (numbered number rest k ≡ some a → k ≡ number a)
+          → elim b as (λ _. Option A) [ true ↦ some a′ | false ↦ numbered number rest k ] ≡ some a → k ≡ number a
+      go true same later found = eqb-true k (number a′) same ∙ ap number (Option·some-injective a′ a found)
+      go false other later found = later found
+
+  pub numbered-none : (l : List A) (k : ℕ) → ((a : A) → ¬ (k ≡ number a)) → numbered number l k ≡ none
+  unfolding numbered
+  numbered-none [] k other = refl
+  numbered-none (a ∷ rest) k other = rw (ne-eqb k (number a) (other a), numbered) (numbered-none rest k other)

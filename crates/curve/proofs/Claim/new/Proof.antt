@@ -1,5 +1,7 @@
-use borrow.Author.Tests.{ne-eqb}
-use Rattle.curve.specs.Kinds.{namedBy}
+use mathlib.Core.Path.{_≡_, sym, ap}
+use mathlib.Core.Option.{Option}
+use Rattle.minplus.specs.Claim.{Kind, result, bound, sum, minimum, convolution, delay, backlog, atMost, exactly, kindNumber, kind-none}
+use Rattle.curve.specs.Kinds.{namedBy, namedAs}
 use borrow.Author.Needs.{needs}
 use Rattle.curve.proofs.Claim.new.Statement.{statement}
 use Rattle.curve.proofs.Claim.new.Tie as tie
@@ -45,9 +47,17 @@ unfolding namedBy
 returns-7 c = rw (c .before .match .keys7) (c .limited4 .ensures)
 
 returns-8 : tie.Need-returns-8
-unfolding namedBy
-returns-8 c =
-    simp (namedBy, ne-eqb _ _ (c .match .rest .0 .0 .0 .0 .0 .0 .1), ne-eqb _ _ (c .match .rest .0 .0 .0 .0 .0 .1), ne-eqb _ _ (c .match .rest .0 .0 .0 .0 .1), ne-eqb _ _ (c .match .rest .0 .0 .0 .1), ne-eqb _ _ (c .match .rest .0 .0 .1), ne-eqb _ _ (c .match .rest .0 .1), ne-eqb _ _ (c .match .rest .1))
+unfolding namedBy kindNumber
+returns-8 c = ap (λ (κ : Option Kind). namedAs κ (c .before .args .x)) (sym (kind-none (c .before .args .kind) other))
+  where
+    other : (κ : Kind) → ¬ (c .before .args .kind ≡ kindNumber κ)
+    other (result sum) = c .match .rest .0 .0 .0 .0 .0 .0 .1
+    other (result minimum) = c .match .rest .0 .0 .0 .0 .0 .1
+    other (result convolution) = c .match .rest .0 .0 .0 .0 .1
+    other (bound delay atMost) = c .match .rest .0 .0 .0 .1
+    other (bound delay exactly) = c .match .rest .0 .0 .1
+    other (bound backlog atMost) = c .match .rest .0 .1
+    other (bound backlog exactly) = c .match .rest .1
 
 pub new-spec : {M : Type 1} → statement M
 new-spec =
