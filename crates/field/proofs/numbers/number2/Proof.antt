@@ -1,0 +1,54 @@
+use Rattle.field.specs.Numbers.{number-split, number-torn}
+use native.Mathlib.Omega.{arith}
+use mathlib.Core.Path.{sym}
+use borrow.Author.Needs.{needs}
+use Rattle.field.proofs.numbers.number2.Statement.{statement}
+use Rattle.field.proofs.numbers.number2.Tie as tie
+
+returns : tie.Need-returns
+returns c = (sym (number-torn 2 _ _ (omega arith)), omega arith)
+
+returns-2 : tie.Need-returns-2
+returns-2 c = (sym (number-torn 2 _ _ (omega arith)), omega arith)
+
+number1-requires : tie.Need-number1-requires
+number1-requires c κs = search needs
+
+cast-result : tie.Need-cast-result
+cast-result c = search needs
+
+mul-result : tie.Need-mul-result
+mul-result c = search needs
+
+add-number1 : tie.Need-add-number1
+add-number1 c = search needs
+
+number1-requires-2 : tie.Need-number1-requires-2
+number1-requires-2 c κs = search needs
+
+cast-result-2 : tie.Need-cast-result-2
+cast-result-2 c = search needs
+
+add-result : tie.Need-add-result
+add-result c = search needs
+
+returns-3 : tie.Need-returns-3
+returns-3 c = (
+  rw (c .before .number1 .ensures, c .number12 .ensures) (sym (number-split 1 1 _ _ (omega arith))),
+  omega arith,
+)
+
+pub number2-spec : {M : Type 1} → statement M
+number2-spec =
+    tie.close
+    (tie.spec
+    returns
+    returns-2
+    number1-requires
+    cast-result
+    mul-result
+    add-number1
+    number1-requires-2
+    cast-result-2
+    add-result
+    returns-3)
