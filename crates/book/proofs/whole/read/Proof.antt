@@ -1,0 +1,118 @@
+use Rattle.book.specs.Held.{noted}
+use Rattle.field.specs.declared.Field.the-variants.{Taken}
+use Rattle.field.specs.declared.Tag.the-variants.{End}
+use Rattle.field.specs.declared.Tag.{Tag}
+use Rattle.field.proofs.Tag.{the-type}
+use denote.Enum.Declared.{tagOf}
+use types.Run.{OneOf, miss}
+use mathlib.Core.List.{[], _∷_}
+use Prim.Native.Nat.{ℕ, _-_}
+use mathlib.Core.Path.{_≡_, sym, ap, subst, _∙_}
+use native.Mathlib.Omega.{arith}
+use lib.ListN.{length}
+use borrow.Author.Tests.{lt-ltb}
+use borrow.Author.Needs.{needs}
+use Rattle.book.specs.Reading.{readBook}
+use Rattle.book.specs.Held.{readingOf, Reads, reads-start, reads-refused, reads-end, reads-more, place-inside, notable}
+use Rattle.book.proofs.whole.read.Statement.{statement}
+use Rattle.book.proofs.whole.read.Tie as tie
+
+-- what `if let Tag::End` leaves: one of the other three
+not-end : (t : Tag) → OneOf (0 ∷ 1 ∷ 2 ∷ []) (tagOf the-type t) → t ≡ End → ⊥
+not-end t k e = miss (0 ∷ 1 ∷ 2 ∷ []) 3 tt (subst (λ (t′ : Tag). OneOf (0 ∷ 1 ∷ 2 ∷ []) (tagOf the-type t′)) e k)
+
+abbrev Inv-loop : tie.InvT-loop
+Inv-loop book state₀ places₀ state places = Reads book state places
+
+abbrev μ-loop : tie.MeasureT-loop
+μ-loop book state₀ places₀ state places = length book - state .place
+
+refused-requires : tie.Need-refused-requires Inv-loop μ-loop
+refused-requires c κs = search needs
+
+returns : tie.Need-returns Inv-loop μ-loop
+unfolding readBook
+returns c = c .refused .ensures ∙ ap readingOf (rw (lt-ltb _ _ (c .before .if1 .taken), readBook))
+
+no-places-requires : tie.Need-no-places-requires Inv-loop μ-loop
+no-places-requires c κs = search needs
+
+loop-holds : tie.Need-loop-holds Inv-loop μ-loop
+loop-holds c = rw (c .no-places .ensures) (reads-start _ (c .before .if1 .left))
+
+step-requires : tie.Need-step-requires Inv-loop μ-loop
+step-requires c κs = search needs
+
+enum-known-answer : tie.Need-enum-known-answer Inv-loop μ-loop
+enum-known-answer c = search needs
+
+enum-known-answer-2 : tie.Need-enum-known-answer-2 Inv-loop μ-loop
+enum-known-answer-2 c = search needs
+
+enum-known-answer-3 : tie.Need-enum-known-answer-3 Inv-loop μ-loop
+enum-known-answer-3 c = search needs
+
+refused-requires-2 : tie.Need-refused-requires-2 Inv-loop μ-loop
+refused-requires-2 c κs = search needs
+
+returns-2 : tie.Need-returns-2 Inv-loop μ-loop
+returns-2 c =
+    c .refused2 .ensures
+    ∙ ap readingOf (sym (reads-refused (c .before .before .before .before .before .before .before .before .loop .inv) _ _ (sym (c .before .before .before .before .before .before .before .step .ensures) ∙ c .before .before .before .before .before .answer2 .given .1 ∙ c .before .before .answer3 .given .1)))
+
+enum-told : tie.Need-enum-told Inv-loop μ-loop
+enum-told c = search needs
+
+refused-requires-3 : tie.Need-refused-requires-3 Inv-loop μ-loop
+refused-requires-3 c κs = search needs
+
+returns-3 : tie.Need-returns-3 Inv-loop μ-loop
+returns-3 c = let other = c .before .enum-told .given .1 in let z : _≡_ {A = ℕ} 0 1 = cc in absurd (omega (arith, z))
+
+noted-requires : tie.Need-noted-requires Inv-loop μ-loop
+noted-requires c κs = notable (c .before .before .before .before .loop .inv) _ _ (sym (c .before .before .before .step .ensures) ∙ c .before .answer .given .1)
+
+enum-told-2 : tie.Need-enum-told-2 Inv-loop μ-loop
+enum-told-2 c = search needs
+
+returns-4 : tie.Need-returns-4 Inv-loop μ-loop
+unfolding readingOf noted
+returns-4 c =
+    let reads = c .before .before .before .before .before .before .before .loop .inv in
+    let end = sym (c .before .before .before .before .before .before .step .ensures) ∙ c .before .before .before .before .answer .given .1 ∙ ap (λ (t : Tag). Taken t (c .before .before .before .before .answer .given .0 .1 .0)) (c .enum-told2 .given .1) in
+    rw (c .before .before .noted .ensures, c .enum-told2 .given .1, noted, reads .held, reads .curve-count, reads .claim-count) (ap readingOf (sym (reads-end reads _ end)))
+
+loop-less : tie.Need-loop-less Inv-loop μ-loop
+loop-less c =
+    let past = place-inside (c .before .before .before .before .before .before .loop .inv) _ _ (sym (c .before .before .before .before .before .step .ensures) ∙ c .before .before .before .answer .given .1) in
+    omega (arith, past .0, past .1)
+
+loop-again : tie.Need-loop-again Inv-loop μ-loop
+loop-again c =
+    rw (c .before .noted .ensures)
+    (reads-more (c .before .before .before .before .before .before .loop .inv) _ _ (sym (c .before .before .before .before .before .step .ensures) ∙ c .before .before .before .answer .given .1) (not-end _ (c .match3 .keys2)))
+
+pub read-spec : {M : Type 1} → statement M
+read-spec =
+    tie.close
+    (tie.spec
+    Inv-loop
+    μ-loop
+    refused-requires
+    returns
+    no-places-requires
+    loop-holds
+    step-requires
+    enum-known-answer
+    enum-known-answer-2
+    enum-known-answer-3
+    refused-requires-2
+    returns-2
+    enum-told
+    refused-requires-3
+    returns-3
+    noted-requires
+    enum-told-2
+    returns-4
+    loop-less
+    loop-again)

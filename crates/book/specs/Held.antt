@@ -1,0 +1,181 @@
+-- What the code holds of a book that it reads.
+--
+--     inArray          a list at the front of an array
+--     readingOf        the answer as the code's struct: a refused book holds nothing
+--     noted            the places with one more field
+use Prim.Native.Nat.{ℕ, zero, suc, _+_, _-_, _≤_, _<_}
+use mathlib.Core.Path.{_≡_, refl, sym, ap, ap₂, _∙_}
+use mathlib.Core.Bool.{false}
+use mathlib.Core.List.{List, [], _∷_, _++_, append-assoc}
+use native.Mathlib.Omega.{arith}
+use borrow.Author.Tests.{le-ltb, leb-false}
+use lib.ListN.{length, getD, set, replicate, length-append, List·getD-append}
+use lib.Seq.{set-at}
+use Rattle.field.specs.declared.Refusal.{Refusal}
+use Rattle.field.specs.declared.Field.the-variants as field
+use Rattle.field.specs.declared.Tag.{Tag}
+use Rattle.field.specs.declared.Tag.the-variants as tag
+use Rattle.field.specs.declared.State.{State}
+use Rattle.book.specs.declared.Places.{Places}
+use Rattle.book.specs.declared.Book.{Book}
+use Rattle.book.specs.declared.Outcome.{Outcome}
+use Rattle.book.specs.declared.Outcome.the-variants as outcome
+use Rattle.book.specs.declared.Reading.{Reading}
+use Rattle.field.specs.Refusals.{maxCurves, maxClaims, full, after, stepAt, takes, next-inside}
+use Rattle.book.specs.Reading.{Contents, Read, sound, refused, maxBytes, start, readFrom, readBook}
+
+unfoldable pub inArray : ℕ → List ℕ → List ℕ
+inArray room l = l ++ replicate {A = ℕ} (room - length l) 0
+
+abbrev pub placesOf : List ℕ → List ℕ → Places
+placesOf curves claims = record { curves = inArray maxCurves curves; claims = inArray maxClaims claims }
+
+abbrev pub bookOf : Contents → Book
+bookOf c = record { version = c .version; curves = length (c .curves); claims = length (c .claims); places = placesOf (c .curves) (c .claims) }
+
+unfoldable pub readingOf : Read → Reading
+unfolding inArray
+readingOf (sound c) = record { outcome = outcome.Sound; book = bookOf c }
+readingOf (refused x p) = record { outcome = outcome.Refused x p; book = bookOf (record { version = 0; curves = []; claims = [] }) }
+
+unfoldable pub noted : Places → Tag → State → Places
+noted places tag.Version st = places
+noted places tag.Curve st = record { curves = set (places .curves) (st .curves) (st .place); claims = places .claims }
+noted places tag.Claim st = record { curves = places .curves; claims = set (places .claims) (st .claims) (st .place) }
+noted places tag.End st = places
+
+-- a place that can be noted: there is room, and it fits 16 bits
+pub record Notable (t : Tag) (st : State) : Type 0 where
+  pub room : full t (st .curves) (st .claims) ≡ false
+  pub near : st .place < 65536
+
+-- ---- laws
+
+array-more : (room : ℕ) (l : List ℕ) (x : ℕ) → length l < room → set (inArray room l) (length l) x ≡ inArray room (l ++ (x ∷ []))
+unfolding inArray
+array-more room l x lt =
+    let rest : ℕ = room - suc (length l) in
+    let e : room - length l ≡ suc rest = omega arith in
+    let e′ : room - length (l ++ (x ∷ [])) ≡ rest = simp length-append (omega arith) in
+    rw (e, e′) (set-at l 0 (replicate {A = ℕ} rest 0) x (length l) refl ∙ sym (append-assoc l (x ∷ []) (replicate {A = ℕ} rest 0)))
+
+pub array-at : (room : ℕ) (l : List ℕ) (k : ℕ) → k < length l → getD (inArray room l) k 0 ≡ getD l k 0
+unfolding inArray
+array-at room l k lt = List·getD-append l (replicate {A = ℕ} (room - length l) 0) 0 k lt
+
+abbrev refusalIn : Outcome → Refusal → Refusal
+refusalIn outcome.Sound other = other
+refusalIn (outcome.Refused x p) other = x
+
+abbrev placeIn : Outcome → ℕ
+placeIn outcome.Sound = 0
+placeIn (outcome.Refused x p) = p
+
+-- what the answer's outcome tells of the book
+pub outcome-refused : (r : Read) (x : Refusal) (p : ℕ) → readingOf r .outcome ≡ outcome.Refused x p → r ≡ refused x p
+unfolding readingOf
+outcome-refused (sound c) x p e = let z : _≡_ {A = ℕ} 0 1 = cc in absurd (omega (arith, z))
+outcome-refused (refused y q) x p e = ap₂ refused (ap (λ (o : Outcome). refusalIn o x) e) (ap placeIn e)
+
+pub outcome-sound : (r : Read) → readingOf r .outcome ≡ outcome.Sound → (c : Contents) × (r ≡ sound c)
+unfolding readingOf
+outcome-sound (sound c) e = (c, refl)
+outcome-sound (refused y q) e = let z : _≡_ {A = ℕ} 0 1 = cc in absurd (omega (arith, z))
+
+-- a reader that stands at a state of a book, with the places before it, reads the book as from its start
+pub record Reads (s : List ℕ) (st : State) (places : Places) : Type 0 where
+  pub steps : ℕ
+  pub curves : List ℕ
+  pub claims : List ℕ
+  pub same : readFrom steps s st curves claims ≡ readBook s
+  pub enough : length s < steps + st .place
+  pub inside : st .place ≤ length s
+  pub short : length s ≤ maxBytes
+  pub held : places ≡ placesOf curves claims
+  pub curve-count : st .curves ≡ length curves
+  pub claim-count : st .claims ≡ length claims
+
+pub reads-start : (s : List ℕ) → length s ≤ maxBytes → Reads s start (placesOf [] [])
+unfolding readBook
+reads-start s fits = record {
+  steps = suc (length s);
+  curves = [];
+  claims = [];
+  same = rw (le-ltb _ _ fits, readBook);
+  enough = omega arith;
+  inside = omega arith;
+  short = fits;
+  held = refl;
+  curve-count = refl;
+  claim-count = refl;
+}
+
+module _ {s : List ℕ} {st : State} {places : Places} (reads : Reads s st places) where
+  -- there is another step
+  again : (k : ℕ) × (readFrom (suc k) s st (reads .curves) (reads .claims) ≡ readBook s) × (length s < suc k + st .place)
+  again = go (reads .steps) (reads .same) (reads .enough)
+    where
+      go : (k : ℕ) → readFrom k s st (reads .curves) (reads .claims) ≡ readBook s → length s < k + st .place
+          → (k : ℕ) × (readFrom (suc k) s st (reads .curves) (reads .claims) ≡ readBook s) × (length s < suc k + st .place)
+      go zero same enough = absurd (omega (arith, enough, reads .inside))
+      go (suc k) same enough = (k, same, enough)
+
+  pub reads-refused : (x : Refusal) (p : ℕ) → stepAt s st ≡ field.Refused x p → readBook s ≡ refused x p
+  unfolding readFrom
+  reads-refused x p e = sym (rw (e, readFrom) at (again .1))
+
+  pub reads-end : (next : State) → stepAt s st ≡ field.Taken tag.End next
+      → readBook s ≡ sound (record { version = st .version; curves = reads .curves; claims = reads .claims })
+  unfolding readFrom
+  reads-end next e = sym (rw (e, readFrom) at (again .1))
+
+  -- a field that is taken brings the reader on, and there is room to note its place
+  module _ (t : Tag) (next : State) (e : stepAt s st ≡ field.Taken t next) where
+    pub place-inside : (st .place < next .place) × (next .place ≤ length s)
+    place-inside = next-inside (takes s st t next e) (reads .inside)
+
+    pub notable : Notable t st
+    notable = record { room = takes s st t next e .room; near = omega (arith, reads .short, reads .inside) }
+
+  moved-on : (t : Tag) (next : State) → stepAt s st ≡ field.Taken t next → (curves claims : List ℕ) → next .curves ≡ length curves → next .claims ≡ length claims
+      → ((k : ℕ) → readFrom (suc k) s st (reads .curves) (reads .claims) ≡ readFrom k s next curves claims)
+      → noted places t st ≡ placesOf curves claims → Reads s next (noted places t st)
+  moved-on t next e curves claims curve-count claim-count on-to held =
+      let past = place-inside t next e in
+      record {
+        steps = again .0;
+        curves = curves;
+        claims = claims;
+        same = sym (on-to (again .0)) ∙ again .1;
+        enough = omega (arith, again .2, past .0);
+        inside = past .1;
+        short = reads .short;
+        held = held;
+        curve-count = curve-count;
+        claim-count = claim-count;
+      }
+
+  pub reads-more : (t : Tag) (next : State) → stepAt s st ≡ field.Taken t next → (t ≡ tag.End → ⊥) → Reads s next (noted places t st)
+  unfolding readFrom noted after full
+  reads-more tag.Version next e other =
+      let then = takes s st tag.Version next e .then in
+      moved-on tag.Version next e (reads .curves) (reads .claims)
+      (ap (λ (x : State). x .curves) then ∙ reads .curve-count) (ap (λ (x : State). x .claims) then ∙ reads .claim-count)
+      (λ k. rw (e, readFrom)) (reads .held)
+  reads-more tag.Curve next e other =
+      let taken = takes s st tag.Curve next e in
+      let room : length (reads .curves) < maxCurves = rw (← reads .curve-count) (leb-false _ _ (taken .room)) in
+      moved-on tag.Curve next e (reads .curves ++ (st .place ∷ [])) (reads .claims)
+      (ap (λ (x : State). x .curves) (taken .then) ∙ rw (reads .curve-count, length-append (reads .curves) (st .place ∷ [])))
+      (ap (λ (x : State). x .claims) (taken .then) ∙ reads .claim-count)
+      (λ k. rw (e, readFrom))
+      (rw (reads .held, reads .curve-count, array-more maxCurves (reads .curves) (st .place) room))
+  reads-more tag.Claim next e other =
+      let taken = takes s st tag.Claim next e in
+      let room : length (reads .claims) < maxClaims = rw (← reads .claim-count) (leb-false _ _ (taken .room)) in
+      moved-on tag.Claim next e (reads .curves) (reads .claims ++ (st .place ∷ []))
+      (ap (λ (x : State). x .curves) (taken .then) ∙ reads .curve-count)
+      (ap (λ (x : State). x .claims) (taken .then) ∙ rw (reads .claim-count, length-append (reads .claims) (st .place ∷ [])))
+      (λ k. rw (e, readFrom))
+      (rw (reads .held, reads .claim-count, array-more maxClaims (reads .claims) (st .place) room))
+  reads-more tag.End next e other = absurd (other refl)

@@ -1,0 +1,197 @@
+-- What reading a book tells.
+--
+--     SoundBook s c        of a book that is not refused: its version, its counts, and that each curve's and each claim's content is sound
+--     Means                of a refused one: its place is in the book, or where the book ends, and within the first 32,768 bytes
+--     read-means           every list of bytes
+--     sound-book, refused-inside     the two, told apart
+use Prim.Native.Nat.{ℕ, zero, suc, _+_, _≤_, _<_}
+use mathlib.Core.Path.{_≡_, refl, sym, ap, subst, _∙_}
+use mathlib.Core.Bool.{Bool, true, false, not}
+use mathlib.Core.List.{List, [], _∷_, _++_}
+use mathlib.Core.Logic.{_⊎_, inl, inr}
+use native.Mathlib.Omega.{arith}
+use native.Mathlib.Nat.{eq-or-lt-of-le}
+use lib.ListN.{length, getD, length-append, List·getD-append}
+use lib.Seq.{getD-at}
+use lib.Dec.{ltb, eqb}
+use borrow.Author.Tests.{leb-false, eqb-true, eqb-false, not-true, not-false, ltb-false}
+use Rattle.minplus.specs.Search.{both-true}
+use Rattle.field.specs.declared.Refusal.{Refusal}
+use Rattle.field.specs.declared.Refusal.the-variants.{BookTooLong, WrongVersion}
+use Rattle.field.specs.declared.Checked.the-variants.{Sound, Refused}
+use Rattle.field.specs.declared.Tag.the-variants as tag
+use Rattle.field.specs.declared.State.{State}
+use Rattle.field.specs.declared.Field.{Field}
+use Rattle.field.specs.declared.Field.the-variants as field
+use Rattle.field.specs.Layout.{contentAt, versionIn}
+use Rattle.field.specs.Refusals.{maxCurves, maxClaims, isVersion, on, versionFault, curveFault, claimFault, contentFault, inOrder, full, after, stepAt, on-sound, takes, refused-at, next-inside}
+use Rattle.book.specs.Reading.{Contents, Read, sound, refused, maxBytes, start, readFrom, readBook}
+
+-- of every member of a list
+abbrev pub Each : (ℕ → Type 0) → List ℕ → Type 0
+Each P l = (k : ℕ) → k < length l → P (getD l k 0)
+
+-- a curve, and a claim that names curves of a book that has so many, at a place
+abbrev pub SoundCurve : List ℕ → ℕ → Type 0
+SoundCurve s p = curveFault (contentAt s p) ≡ Sound
+
+abbrev pub SoundClaim : List ℕ → ℕ → ℕ → Type 0
+SoundClaim s curves p = claimFault curves (contentAt s p) ≡ Sound
+
+pub record SoundBook (s : List ℕ) (c : Contents) : Type 0 where
+  pub version-known : isVersion (c .version) ≡ true
+  pub curves-fit : length (c .curves) ≤ maxCurves
+  pub claims-fit : length (c .claims) ≤ maxClaims
+  pub each-curve : Each (SoundCurve s) (c .curves)
+  pub each-claim : Each (SoundClaim s (length (c .curves))) (c .claims)
+
+abbrev pub Means : List ℕ → Read → Type 0
+Means s (sound c) = SoundBook s c
+Means s (refused x p) = (p ≤ length s) × (p ≤ maxBytes)
+
+-- ---- laws
+
+each-none : (P : ℕ → Type 0) (l : List ℕ) → length l ≡ 0 → Each P l
+each-none P l e k lt = absurd (omega (arith, e, lt))
+
+each-more : (P : ℕ → Type 0) (l : List ℕ) (x : ℕ) → Each P l → P x → Each P (l ++ (x ∷ []))
+each-more P l x each here k lt = go (eq-or-lt-of-le last)
+  where
+    last : k ≤ length l
+    last = let e : length (l ++ (x ∷ [])) ≡ length l + 1 = length-append l (x ∷ []) in omega (arith, e, lt)
+
+    go : (k ≡ length l) ⊎ (k < length l) → P (getD (l ++ (x ∷ [])) k 0)
+    go (inl e) = subst P (sym (getD-at l x [] 0 k (sym e))) here
+    go (inr less) = subst P (sym (List·getD-append l (x ∷ []) 0 k less)) (each k less)
+
+-- where a reader stands, with the places of what it has read: what holds of these so far
+record Kept (s : List ℕ) (st : State) (curves claims : List ℕ) : Type 0 where
+  version-known : (st .version ≡ 0) ⊎ (isVersion (st .version) ≡ true)
+  curve-count : st .curves ≡ length curves
+  claim-count : st .claims ≡ length claims
+  curves-fit : length curves ≤ maxCurves
+  claims-fit : length claims ≤ maxClaims
+  each-curve : Each (SoundCurve s) curves
+  each-claim : Each (SoundClaim s (length curves)) claims
+  inside : st .place ≤ length s
+  short : length s ≤ maxBytes
+
+module _ {s : List ℕ} {st : State} {curves claims : List ℕ} (kept : Kept s st curves claims) (next : State) where
+  kept-version : stepAt s st ≡ field.Taken tag.Version next → Kept s next curves claims
+  unfolding after contentFault versionFault
+  kept-version e =
+      let taken = takes s st tag.Version next e in
+      let content : List ℕ = contentAt s (st .place) in
+      let is-one : Bool = isVersion (versionIn content) in
+      let long = on-sound (not (eqb (length content) 1)) WrongVersion (on (not is-one) WrongVersion Sound) (taken .content) in
+      let right : is-one ≡ true = not-false is-one (on-sound (not is-one) WrongVersion Sound (long .1) .0) in
+      record {
+        version-known = inr (ap (λ (x : State). isVersion (x .version)) (taken .then) ∙ right);
+        curve-count = ap (λ (x : State). x .curves) (taken .then) ∙ kept .curve-count;
+        claim-count = ap (λ (x : State). x .claims) (taken .then) ∙ kept .claim-count;
+        curves-fit = kept .curves-fit;
+        claims-fit = kept .claims-fit;
+        each-curve = kept .each-curve;
+        each-claim = kept .each-claim;
+        inside = next-inside taken (kept .inside) .1;
+        short = kept .short;
+      }
+
+  kept-curve : stepAt s st ≡ field.Taken tag.Curve next → Kept s next (curves ++ (st .place ∷ [])) claims
+  unfolding after contentFault inOrder full
+  kept-curve e =
+      let taken = takes s st tag.Curve next e in
+      let one-more : length (curves ++ (st .place ∷ [])) ≡ length curves + 1 = length-append curves (st .place ∷ []) in
+      let none-yet : st .claims ≡ 0 = eqb-true _ _ (both-true (not (eqb (st .version) 0)) (eqb (st .claims) 0) .0 (taken .ordered) .1) in
+      record {
+        version-known = subst (λ (v : ℕ). (v ≡ 0) ⊎ (isVersion v ≡ true)) (sym (ap (λ (x : State). x .version) (taken .then))) (kept .version-known);
+        curve-count = ap (λ (x : State). x .curves) (taken .then) ∙ rw (kept .curve-count) (sym one-more);
+        claim-count = ap (λ (x : State). x .claims) (taken .then) ∙ kept .claim-count;
+        curves-fit = let below : st .curves < maxCurves = leb-false _ _ (taken .room) in omega (arith, one-more, kept .curve-count, below);
+        claims-fit = kept .claims-fit;
+        each-curve = each-more (SoundCurve s) curves (st .place) (kept .each-curve) (taken .content);
+        each-claim = each-none (SoundClaim s (length (curves ++ (st .place ∷ [])))) claims (sym (kept .claim-count) ∙ none-yet);
+        inside = next-inside taken (kept .inside) .1;
+        short = kept .short;
+      }
+
+  kept-claim : stepAt s st ≡ field.Taken tag.Claim next → Kept s next curves (claims ++ (st .place ∷ []))
+  unfolding after contentFault full
+  kept-claim e =
+      let taken = takes s st tag.Claim next e in
+      let one-more : length (claims ++ (st .place ∷ [])) ≡ length claims + 1 = length-append claims (st .place ∷ []) in
+      record {
+        version-known = subst (λ (v : ℕ). (v ≡ 0) ⊎ (isVersion v ≡ true)) (sym (ap (λ (x : State). x .version) (taken .then))) (kept .version-known);
+        curve-count = ap (λ (x : State). x .curves) (taken .then) ∙ kept .curve-count;
+        claim-count = ap (λ (x : State). x .claims) (taken .then) ∙ rw (kept .claim-count) (sym one-more);
+        curves-fit = kept .curves-fit;
+        claims-fit = let below : st .claims < maxClaims = leb-false _ _ (taken .room) in omega (arith, one-more, kept .claim-count, below);
+        each-curve = kept .each-curve;
+        each-claim =
+            each-more (SoundClaim s (length curves)) claims (st .place) (kept .each-claim)
+            (subst (λ (n : ℕ). SoundClaim s n (st .place)) (kept .curve-count) (taken .content));
+        inside = next-inside taken (kept .inside) .1;
+        short = kept .short;
+      }
+
+  kept-end : stepAt s st ≡ field.Taken tag.End next → SoundBook s (record { version = st .version; curves = curves; claims = claims })
+  unfolding inOrder
+  kept-end e = record {
+    version-known = known (kept .version-known) (eqb-false _ _ (not-true _ (takes s st tag.End next e .ordered)));
+    curves-fit = kept .curves-fit;
+    claims-fit = kept .claims-fit;
+    each-curve = kept .each-curve;
+    each-claim = kept .each-claim;
+  }
+    where
+      known : (st .version ≡ 0) ⊎ (isVersion (st .version) ≡ true) → (st .version ≡ 0 → ⊥) → isVersion (st .version) ≡ true
+      known (inl e) other = absurd (other e)
+      known (inr e) other = e
+
+read-from : (k : ℕ) (s : List ℕ) (st : State) (curves claims : List ℕ) → Kept s st curves claims → Means s (readFrom k s st curves claims)
+unfolding readFrom
+read-from zero s st curves claims kept = (kept .inside, omega (arith, kept .inside, kept .short))
+read-from (suc k) s st curves claims kept = go (stepAt s st) refl (read-from k s)
+  where
+    go : (f : Field) → stepAt s st ≡ f → ((st : State) (curves claims : List ℕ) → Kept s st curves claims → Means s (readFrom k s st curves claims))
+        → Means s (elim f as (λ _. Read) [
+          | field.Refused x p ↦ refused x p
+          | field.Taken t next ↦ elim t as (λ _. Read) [
+            | tag.Version ↦ readFrom k s next curves claims
+            | tag.Curve ↦ readFrom k s next (curves ++ (st .place ∷ [])) claims
+            | tag.Claim ↦ readFrom k s next curves (claims ++ (st .place ∷ []))
+            | tag.End ↦ sound (record { version = st .version; curves = curves; claims = claims })
+          ]
+        ])
+    go (field.Refused x p) e later = rw (refused-at s st x p e) (kept .inside, omega (arith, kept .inside, kept .short))
+    go (field.Taken tag.Version next) e later = later next curves claims (kept-version kept next e)
+    go (field.Taken tag.Curve next) e later = later next _ claims (kept-curve kept next e)
+    go (field.Taken tag.Claim next) e later = later next curves _ (kept-claim kept next e)
+    go (field.Taken tag.End next) e later = kept-end kept next e
+
+pub read-means : (s : List ℕ) → Means s (readBook s)
+unfolding readBook
+read-means s = go (ltb maxBytes (length s)) refl
+  where
+    begun : length s ≤ maxBytes → Kept s start [] []
+    begun fits = record {
+      version-known = inl refl;
+      curve-count = refl;
+      claim-count = refl;
+      curves-fit = omega arith;
+      claims-fit = omega arith;
+      each-curve = each-none (SoundCurve s) [] refl;
+      each-claim = each-none (SoundClaim s 0) [] refl;
+      inside = omega arith;
+      short = fits;
+    }
+
+    go : (b : Bool) → ltb maxBytes (length s) ≡ b → Means s (elim b as (λ _. Read) [ true ↦ refused BookTooLong 0 | false ↦ readFrom (suc (length s)) s start [] [] ])
+    go true long = (omega arith, omega arith)
+    go false short = read-from (suc (length s)) s start [] [] (begun (ltb-false _ _ short))
+
+pub sound-book : (s : List ℕ) (c : Contents) → readBook s ≡ sound c → SoundBook s c
+sound-book s c e = subst (Means s) e (read-means s)
+
+pub refused-inside : (s : List ℕ) (x : Refusal) (p : ℕ) → readBook s ≡ refused x p → (p ≤ length s) × (p ≤ maxBytes)
+refused-inside s x p e = subst (Means s) e (read-means s)

@@ -1,0 +1,101 @@
+// The whole book, field by field.
+ghost use mathlib.Core.Path.{_≡_};
+ghost use mathlib.Core.List.{[]};
+ghost use Rattle.book.specs.Reading.{readBook, refused};
+ghost use Rattle.book.specs.Held.{placesOf, readingOf, Notable, noted};
+use crate::Book;
+use crate::Outcome;
+use crate::Places;
+use crate::Reading;
+use field::Field;
+use field::Refusal;
+use field::State;
+use field::Tag;
+use field::steps::step;
+
+fn no_places() -> Places
+    ensures { λ r. ⌜ r ≡ placesOf [] [] ⌝ }
+{
+    Places {
+        curves: [0u16; State::MAX_CURVES],
+        claims: [0u16; State::MAX_CLAIMS],
+    }
+}
+
+fn refused(refusal: Refusal, place: usize) -> Reading
+    ensures { λ r. ⌜ r ≡ readingOf (refused refusal place) ⌝ }
+{
+    Reading {
+        outcome: Outcome::Refused(refusal, place),
+        book: Book {
+            version: 0,
+            curves: 0,
+            claims: 0,
+            places: no_places(),
+        },
+    }
+}
+
+// The places with the field at the state's place, which is taken.
+fn noted(places: Places, tag: Tag, state: State) -> Places
+    requires { ⌜ Notable tag state ⌝ }
+    ensures { λ r. ⌜ r ≡ noted places tag state ⌝ }
+{
+    let mut curves = places.curves;
+    let mut claims = places.claims;
+    let place = state.place;
+    match tag {
+        Tag::Version => {}
+        Tag::Curve => {
+            let n = state.curves;
+            curves[n] = place as u16;
+        }
+        Tag::Claim => {
+            let n = state.claims;
+            claims[n] = place as u16;
+        }
+        Tag::End => {}
+    }
+    Places { curves, claims }
+}
+
+pub fn read(book: &[u8]) -> Reading
+    ensures { λ r. ⌜ r ≡ readingOf (readBook (now (book .entry))) ⌝ }
+{
+    if Book::MAX_BYTES < book.len() {
+        return refused(Refusal::BookTooLong, 0);
+    }
+    let mut state = State {
+        version: 0,
+        curves: 0,
+        claims: 0,
+        place: 0,
+    };
+    let mut places = no_places();
+    loop {
+        let answer = step(book, state);
+        let Field::Taken(tag, next) = answer else {
+            match answer {
+                Field::Refused(refusal, place) => {
+                    return refused(refusal, place);
+                }
+                Field::Taken(_, _) => {
+                    return refused(Refusal::Torn, 0);
+                }
+            }
+        };
+        places = noted(places, tag, state);
+        if let Tag::End = tag {
+            return Reading {
+                outcome: Outcome::Sound,
+                book: Book {
+                    version: state.version,
+                    curves: state.curves,
+                    claims: state.claims,
+                    places,
+                },
+            };
+        }
+        state = next;
+    }
+}
