@@ -21,7 +21,8 @@ use Rattle.book.specs.declared.Book.{Book}
 use Rattle.book.specs.declared.Outcome.{Outcome}
 use Rattle.book.specs.declared.Outcome.the-variants as outcome
 use Rattle.book.specs.declared.Reading.{Reading}
-use Rattle.field.specs.Refusals.{maxCurves, maxClaims, full, after, stepAt, takes, next-inside}
+use Rattle.field.specs.Refusals.{maxCurves, maxClaims}
+use Rattle.field.specs.Steps.{full, after, stepAt, takes, next-inside}
 use Rattle.book.specs.Reading.{Contents, Read, sound, refused, maxBytes, start, readFrom, readBook}
 
 unfoldable pub inArray : ℕ → List ℕ → List ℕ

@@ -3,4 +3,5 @@
 pub mod Reading
 pub mod Values
 pub mod Sound
+pub mod Ground
 pub mod Held

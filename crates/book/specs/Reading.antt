@@ -2,7 +2,7 @@
 --
 --     Contents         a sound book: its version, and at which byte the field of each curve and each claim begins
 --     Read             what any list of bytes is
---     readFrom         field by field, from a state on
+--     readOn, readFrom     field by field, from a state on
 --     readBook         a book
 --     curveOfBook      curve k of a sound book
 use Prim.Native.Nat.{ℕ, zero, suc, _+_}
@@ -14,8 +14,9 @@ use Rattle.field.specs.declared.Refusal.{Refusal}
 use Rattle.field.specs.declared.Refusal.the-variants.{Torn, BookTooLong}
 use Rattle.field.specs.declared.Tag.the-variants as tag
 use Rattle.field.specs.declared.State.{State}
+use Rattle.field.specs.declared.Field.{Field}
 use Rattle.field.specs.declared.Field.the-variants as field
-use Rattle.field.specs.Refusals.{stepAt}
+use Rattle.field.specs.Steps.{stepAt}
 
 pub record Contents : Type 0 where
   pub version : ℕ
@@ -32,21 +33,19 @@ maxBytes = 32_768
 abbrev pub start : State
 start = record { version = 0; curves = 0; claims = 0; place = 0 }
 
--- the places of the curves and of the claims before the state are known. Each field has three bytes or more, so that a number of steps above
--- the bytes that are left is always enough
+-- a field's answer, with how the book is read on from a state. The lists are the places of the curves and of the claims before the field
+abbrev pub readOn : (State → List ℕ → List ℕ → Read) → Field → State → List ℕ → List ℕ → Read
+readOn on (field.Refused x p) st curves claims = refused x p
+readOn on (field.Taken tag.Version next) st curves claims = on next curves claims
+readOn on (field.Taken tag.Curve next) st curves claims = on next (curves ++ (st .place ∷ [])) claims
+readOn on (field.Taken tag.Claim next) st curves claims = on next curves (claims ++ (st .place ∷ []))
+readOn on (field.Taken tag.End next) st curves claims = sound (record { version = st .version; curves = curves; claims = claims })
+
+-- field by field. A field has three bytes or more, so that as many steps as there are bytes left are enough (read-steps)
 unfoldable pub readFrom : ℕ → List ℕ → State → List ℕ → List ℕ → Read
 unfolding stepAt
 readFrom zero s st curves claims = refused Torn (st .place)
-readFrom (suc k) s st curves claims =
-    elim (stepAt s st) [
-      | field.Refused x p ↦ refused x p
-      | field.Taken t next ↦ elim t [
-        | tag.Version ↦ readFrom k s next curves claims
-        | tag.Curve ↦ readFrom k s next (curves ++ (st .place ∷ [])) claims
-        | tag.Claim ↦ readFrom k s next curves (claims ++ (st .place ∷ []))
-        | tag.End ↦ sound (record { version = st .version; curves = curves; claims = claims })
-      ]
-    ]
+readFrom (suc k) s st curves claims = readOn (readFrom k s) (stepAt s st) st curves claims
 
 unfoldable pub readBook : List ℕ → Read
 unfolding readFrom

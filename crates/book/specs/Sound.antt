@@ -3,6 +3,7 @@
 --     SoundBook s c        of a book that is not refused: its version, its counts, and that each curve's and each claim's content is sound
 --     Means                of a refused one: its place is in the book, or where the book ends, and within the first 32,768 bytes
 --     read-means           every list of bytes
+--     read-steps           a step more changes nothing: no answer is for want of steps
 --     sound-book, refused-inside     the two, told apart
 use Prim.Native.Nat.{ℕ, zero, suc, _+_, _≤_, _<_}
 use mathlib.Core.Path.{_≡_, refl, sym, ap, subst, _∙_}
@@ -24,8 +25,9 @@ use Rattle.field.specs.declared.State.{State}
 use Rattle.field.specs.declared.Field.{Field}
 use Rattle.field.specs.declared.Field.the-variants as field
 use Rattle.field.specs.Layout.{contentAt, versionIn}
-use Rattle.field.specs.Refusals.{maxCurves, maxClaims, isVersion, on, versionFault, curveFault, claimFault, contentFault, inOrder, full, after, stepAt, on-sound, takes, refused-at, next-inside}
-use Rattle.book.specs.Reading.{Contents, Read, sound, refused, maxBytes, start, readFrom, readBook}
+use Rattle.field.specs.Refusals.{maxCurves, maxClaims, isVersion, on, versionFault, curveFault, claimFault, contentFault, on-sound}
+use Rattle.field.specs.Steps.{inOrder, full, after, stepAt, takes, refused-at, next-inside}
+use Rattle.book.specs.Reading.{Contents, Read, sound, refused, maxBytes, start, readOn, readFrom, readBook}
 
 -- of every member of a list
 abbrev pub Each : (ℕ → Type 0) → List ℕ → Type 0
@@ -154,15 +156,7 @@ read-from zero s st curves claims kept = (kept .inside, omega (arith, kept .insi
 read-from (suc k) s st curves claims kept = go (stepAt s st) refl (read-from k s)
   where
     go : (f : Field) → stepAt s st ≡ f → ((st : State) (curves claims : List ℕ) → Kept s st curves claims → Means s (readFrom k s st curves claims))
-        → Means s (elim f as (λ _. Read) [
-          | field.Refused x p ↦ refused x p
-          | field.Taken t next ↦ elim t as (λ _. Read) [
-            | tag.Version ↦ readFrom k s next curves claims
-            | tag.Curve ↦ readFrom k s next (curves ++ (st .place ∷ [])) claims
-            | tag.Claim ↦ readFrom k s next curves (claims ++ (st .place ∷ []))
-            | tag.End ↦ sound (record { version = st .version; curves = curves; claims = claims })
-          ]
-        ])
+        → Means s (readOn (readFrom k s) f st curves claims)
     go (field.Refused x p) e later = rw (refused-at s st x p e) (kept .inside, omega (arith, kept .inside, kept .short))
     go (field.Taken tag.Version next) e later = later next curves claims (kept-version kept next e)
     go (field.Taken tag.Curve next) e later = later next _ claims (kept-curve kept next e)
@@ -195,3 +189,21 @@ sound-book s c e = subst (Means s) e (read-means s)
 
 pub refused-inside : (s : List ℕ) (x : Refusal) (p : ℕ) → readBook s ≡ refused x p → (p ≤ length s) × (p ≤ maxBytes)
 refused-inside s x p e = subst (Means s) e (read-means s)
+
+pub read-steps : (k : ℕ) (s : List ℕ) (st : State) (curves claims : List ℕ) → st .place ≤ length s → length s < k + st .place
+    → readFrom (suc k) s st curves claims ≡ readFrom k s st curves claims
+unfolding readFrom
+read-steps zero s st curves claims inside enough = absurd (omega (arith, inside, enough))
+read-steps (suc k) s st curves claims inside enough = go (stepAt s st) refl (read-steps k s)
+  where
+    further : (next : State) → (st .place < next .place) × (next .place ≤ length s) → length s < k + next .place
+    further next past = omega (arith, enough, past .0)
+
+    go : (f : Field) → stepAt s st ≡ f
+        → ((st : State) (curves claims : List ℕ) → st .place ≤ length s → length s < k + st .place → readFrom (suc k) s st curves claims ≡ readFrom k s st curves claims)
+        → readOn (readFrom (suc k) s) f st curves claims ≡ readOn (readFrom k s) f st curves claims
+    go (field.Refused x p) e later = refl
+    go (field.Taken tag.Version next) e later = let past = next-inside (takes s st _ next e) inside in later next _ _ (past .1) (further next past)
+    go (field.Taken tag.Curve next) e later = let past = next-inside (takes s st _ next e) inside in later next _ _ (past .1) (further next past)
+    go (field.Taken tag.Claim next) e later = let past = next-inside (takes s st _ next e) inside in later next _ _ (past .1) (further next past)
+    go (field.Taken tag.End next) e later = refl

@@ -1,7 +1,8 @@
--- One field of a book: document 01's sections 'The book' and 'Refusal numbers', but for the loop over the fields. Numbers, Layout and Refusals are the definitions; Curves says what is
--- known of a curve that is not refused; Claims is for the code.
+-- One field of a book: document 01's sections 'The book' and 'Refusal numbers', but for the loop over the fields. Numbers, Layout, Refusals and Steps are the definitions; Sound says what is
+-- known of a curve and of a claim that are not refused; Claims is for the code.
 pub mod Numbers
 pub mod Layout
 pub mod Refusals
-pub mod Curves
+pub mod Steps
+pub mod Sound
 pub mod Claims

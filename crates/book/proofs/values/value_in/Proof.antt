@@ -1,6 +1,6 @@
 use Rattle.book.specs.Held.{readingOf, array-at, outcome-refused, outcome-sound}
 use Rattle.book.specs.Sound.{sound-book}
-use Rattle.field.specs.Curves.{curve-well-formed}
+use Rattle.field.specs.Sound.{curve-well-formed}
 use Rattle.book.specs.Values.{askedOf, valueAsked}
 use Rattle.book.specs.Reading.{Contents, Read, sound, readBook}
 use Rattle.field.specs.Layout.{contentAt, curveIn}

@@ -1,5 +1,6 @@
 use Rattle.book.specs.Held.{noted}
-use Rattle.field.specs.Refusals.{maxCurves, maxClaims, full}
+use Rattle.field.specs.Refusals.{maxCurves, maxClaims}
+use Rattle.field.specs.Steps.{full}
 use borrow.Author.Tests.{leb-false}
 use native.Mathlib.Omega.{arith}
 use Prim.Native.Nat.{_<_}

@@ -1,5 +1,5 @@
 use native.Mathlib.Omega.{arith}
-use Rattle.field.specs.Refusals.{after, full}
+use Rattle.field.specs.Steps.{after, full}
 use borrow.Author.Tests.{leb-false}
 use Prim.Native.Nat.{_<_}
 use borrow.Author.Needs.{needs}

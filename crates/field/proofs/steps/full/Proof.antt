@@ -1,4 +1,4 @@
-use Rattle.field.specs.Refusals.{full}
+use Rattle.field.specs.Steps.{full}
 use borrow.Author.Needs.{needs}
 use Rattle.field.proofs.steps.full.Statement.{statement}
 use Rattle.field.proofs.steps.full.Tie as tie

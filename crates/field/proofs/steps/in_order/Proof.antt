@@ -1,4 +1,4 @@
-use Rattle.field.specs.Refusals.{inOrder}
+use Rattle.field.specs.Steps.{inOrder}
 use borrow.Author.Tests.{eq-eqb, ne-eqb}
 use borrow.Author.Needs.{needs}
 use Rattle.field.proofs.steps.in_order.Statement.{statement}

@@ -1,6 +1,6 @@
 use Rattle.field.specs.declared.Field.the-variants.{Taken}
 use Rattle.field.specs.declared.Tagged.{Tagged}
-use Rattle.field.specs.Refusals.{fieldSize, taggedFault, after, answer, tagged, stepOn, stepAt, Takes, takes}
+use Rattle.field.specs.Steps.{fieldSize, taggedFault, after, answer, tagged, stepOn, stepAt, Takes, takes}
 use Rattle.field.specs.Layout.{tagOf, lengthOf, contentOf, versionIn}
 use Rattle.field.specs.declared.Checked.{Checked}
 use Rattle.field.specs.declared.State.{State}

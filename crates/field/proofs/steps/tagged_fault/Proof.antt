@@ -1,4 +1,4 @@
-use Rattle.field.specs.Refusals.{taggedFault}
+use Rattle.field.specs.Steps.{taggedFault}
 use borrow.Author.Tests.{lt-ltb, le-ltb}
 use borrow.Author.Needs.{needs}
 use Rattle.field.proofs.steps.tagged_fault.Statement.{statement}

@@ -1,0 +1,57 @@
+-- Document 01's book in full, W8, and the empty input, read by the definitions.
+--
+--     w8, w8-contents     its 59 bytes, and what they hold
+--     w8-read             it is sound; w8-curves, w8-claim: with A, B and the claim of W8
+--     w8-values           W1, asked of it
+--     empty-read          "An empty input is refusal 1 at 0."
+use Prim.Native.Nat.{ℕ}
+use mathlib.Core.Path.{_≡_, refl}
+use mathlib.Core.List.{List, [], _∷_, _++_}
+use Rattle.curve.specs.declared.Deviation.the-variants.{Delay}
+use Rattle.curve.specs.declared.Claim.the-variants.{Exactly}
+use Rattle.field.specs.declared.Refusal.the-variants.{Torn}
+use Rattle.field.specs.declared.ClaimField.the-variants.{Stated}
+use Rattle.minplus.specs.Claim.{kindBy}
+use Rattle.curve.specs.Filled.{listOf}
+use Rattle.field.specs.Numbers.{numberAt}
+use Rattle.field.specs.Layout.{tagBy, contentAt}
+use Rattle.field.specs.Refusals.{claimField}
+use Rattle.book.specs.declared.Asked.the-variants.{Value}
+use Rattle.book.specs.Reading.{Contents, sound, refused, readBook}
+use Rattle.book.specs.Values.{curveOf, valueAsked}
+
+-- version; A; B; A's delay on B is exactly 3; end
+unfoldable pub w8 : List ℕ
+w8 =
+    (16 ∷ 0 ∷ 1 ∷ 1 ∷ [])
+    ++ (1 ∷ 0 ∷ 16 ∷ 0 ∷ 1 ∷ 0 ∷ 1 ∷ 0 ∷ 0 ∷ 0 ∷ 1 ∷ 0 ∷ 0 ∷ 0 ∷ 0 ∷ 0 ∷ 0 ∷ 0 ∷ 4 ∷ [])
+    ++ (1 ∷ 0 ∷ 20 ∷ 0 ∷ 2 ∷ 0 ∷ 1 ∷ 0 ∷ 0 ∷ 0 ∷ 2 ∷ 0 ∷ 0 ∷ 0 ∷ 0 ∷ 0 ∷ 0 ∷ 0 ∷ 0 ∷ 0 ∷ 0 ∷ 0 ∷ 0 ∷ [])
+    ++ (2 ∷ 0 ∷ 7 ∷ 5 ∷ 0 ∷ 1 ∷ 0 ∷ 0 ∷ 0 ∷ 3 ∷ [])
+    ++ (127 ∷ 0 ∷ 0 ∷ [])
+
+unfoldable pub w8-contents : Contents
+w8-contents = record { version = 1; curves = 4 ∷ 23 ∷ []; claims = 46 ∷ [] }
+
+pub w8-read : readBook w8 ≡ sound w8-contents
+unfolding readBook w8 w8-contents tagBy kindBy numberAt
+w8-read = refl
+
+-- "A: T=1, d=1, c=1, values 0 4. B: T=2, d=1, c=2, values 0 0 0."
+pub w8-curves : (curveOf w8 w8-contents 0 ≡ record { rank = 1; period = 1; increment = 1; listed = 0 ∷ 4 ∷ [] })
+    × (curveOf w8 w8-contents 1 ≡ record { rank = 2; period = 1; increment = 2; listed = 0 ∷ 0 ∷ 0 ∷ [] })
+unfolding w8 w8-contents numberAt listOf
+w8-curves = (refl, refl)
+
+-- "delay of A on B exactly 3"
+pub w8-claim : claimField 2 (contentAt w8 46) ≡ Stated (record { claim = Exactly (Delay (record { 0 = 3 })); left = 0; right = 1; claimed = 0 })
+unfolding w8 claimField kindBy numberAt
+w8-claim = refl
+
+-- "A(5) = 8, B(5) = 6"
+pub w8-values : (valueAsked w8 0 5 ≡ Value (record { 0 = 8 })) × (valueAsked w8 1 5 ≡ Value (record { 0 = 6 }))
+unfolding valueAsked w8 tagBy kindBy numberAt listOf
+w8-values = (refl, refl)
+
+pub empty-read : readBook [] ≡ refused Torn 0
+unfolding readBook
+empty-read = refl
