@@ -60,6 +60,10 @@ array-more room l x lt =
     let e′ : room - length (l ++ (x ∷ [])) ≡ rest = simp length-append (omega arith) in
     rw (e, e′) (set-at l 0 (replicate {A = ℕ} rest 0) x (length l) refl ∙ sym (append-assoc l (x ∷ []) (replicate {A = ℕ} rest 0)))
 
+pub held-book : (v : ℕ) (curves claims : List ℕ) (n m : ℕ) (places : Places) → n ≡ length curves → m ≡ length claims → places ≡ placesOf curves claims
+    → _≡_ {A = Book} (record { version = v; curves = n; claims = m; places = places }) (bookOf (record { version = v; curves = curves; claims = claims }))
+held-book v curves claims n m places e e′ e″ = rw (e, e′, e″)
+
 pub array-at : (room : ℕ) (l : List ℕ) (k : ℕ) → k < length l → getD (inArray room l) k 0 ≡ getD l k 0
 unfolding inArray
 array-at room l k lt = List·getD-append l (replicate {A = ℕ} (room - length l) 0) 0 k lt

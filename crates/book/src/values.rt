@@ -19,7 +19,8 @@ pub fn value_in(book: &[u8], curve: u64, tick: u64) -> Asked
     if let Outcome::Refused(refusal, place) = outcome {
         return Asked::Refused(refusal, place);
     }
-    if sound.curves as u64 <= curve {
+    let curves = sound.curves as u64;
+    if curves <= curve {
         return Asked::Refused(Refusal::NoSuchCurve, 0);
     }
     if Asked::MAX_TICK < tick {

@@ -58,11 +58,8 @@ pub(crate) fn curve_fault(content: &[u8]) -> Checked
         return Checked::Refused(Refusal::CurveLength);
     }
     let period = number2(content, 2);
-    if period == 0 {
-        return Checked::Refused(Refusal::CurvePeriod);
-    }
     let count = (number2(content, 0) + period) as usize;
-    if Curve::MAX_LISTED < count {
+    if period == 0 || Curve::MAX_LISTED < count {
         return Checked::Refused(Refusal::CurvePeriod);
     }
     if content.len() != HEAD + 4 * count {
@@ -87,17 +84,17 @@ fn curve_in(content: &[u8]) -> Curve
     let rank = number2(content, 0);
     let period = number2(content, 2);
     let increment = number4(content, 4);
-    let mut count = (rank + period) as usize;
-    if Curve::MAX_LISTED < count {
-        count = Curve::MAX_LISTED;
+    let mut held = (rank + period) as usize;
+    if Curve::MAX_LISTED < held {
+        held = Curve::MAX_LISTED;
     }
     let mut values = [0u32; Curve::MAX_LISTED];
     let mut n: usize = 0;
-    while n < count {
+    while n < held {
         values[n] = listed_in(content, n);
         n += 1;
     }
-    Curve::new(Ticks(rank), Ticks(period), increment, &values[..count])
+    Curve::new(Ticks(rank), Ticks(period), increment, &values[..held])
 }
 
 // The curve whose field begins at a place. The place is not looked at first: of a book that ends before the field does, what is missing reads as 0.

@@ -20,7 +20,9 @@ pub(crate) fn number2(bytes: &[u8], at: usize) -> u32
     if length - 2 < at {
         return 0;
     }
-    number1(bytes, at) as u32 * 256 + number1(bytes, at + 1) as u32
+    let high = number1(bytes, at) as u32;
+    let low = number1(bytes, at + 1) as u32;
+    high * 256 + low
 }
 
 pub(crate) fn number4(bytes: &[u8], at: usize) -> u32

@@ -1,7 +1,7 @@
 use Rattle.book.specs.Held.{readingOf, array-at, outcome-refused, outcome-sound}
 use Rattle.book.specs.Sound.{sound-book}
 use Rattle.field.specs.Sound.{curve-well-formed}
-use Rattle.book.specs.Values.{askedOf, valueAsked}
+use Rattle.book.specs.Values.{maxTick, askedOf, valueAsked}
 use Rattle.book.specs.Reading.{Contents, Read, sound, readBook}
 use Rattle.field.specs.Layout.{contentAt, curveIn}
 use Rattle.book.specs.declared.Asked.the-variants as asked
@@ -71,7 +71,7 @@ unfolding valueAsked
 returns-3 c =
     let a = c .before .before .before .before .before .before .before .args in
     sym (ap (λ (r : Read). askedOf (now (a .book)) r (a .curve) (a .tick)) (sound-so (c .before .before) .1)
-    ∙ rw (lt-leb _ _ (named (c .before)), lt-ltb _ _ (c .if2 .taken), askedOf))
+    ∙ rw (lt-leb _ _ (named (c .before)), lt-ltb maxTick (a .tick) (omega arith), askedOf))
 
 mul-place : tie.Need-mul-place
 mul-place c = omega (arith, room (c .before .before))
@@ -106,7 +106,7 @@ returns-4 c =
     let due = c .value-at .ensures ∙ ap (λ (f : held-curve.Curve). value (held-curves.curveOf f) (a .tick)) is ∙ ap (λ (f : Curve). value f (a .tick)) (held-curves.holding-back (curveIn content) well) in
     ap (λ (v : ℕ). asked.Value (record { 0 = v })) due
     ∙ sym (ap (λ (r : Read). askedOf s r (a .curve) (a .tick)) (sound-so (at .before) .1)
-    ∙ rw (lt-leb _ _ (named at), le-ltb _ _ (c .before .before .before .before .before .before .before .before .before .if2 .left), askedOf))
+    ∙ rw (lt-leb _ _ (named at), le-ltb maxTick (a .tick) (omega arith), askedOf))
 
 pub value-in-spec : {M : Type 1} → statement M
 value-in-spec =

@@ -1,3 +1,8 @@
+use Rattle.book.specs.Held.{held-book}
+use Rattle.book.specs.Reading.{maxBytes}
+use Rattle.book.specs.declared.Outcome.the-variants as outcome
+use Rattle.book.specs.declared.Book.{Book}
+use denote.Ref.{now}
 use Rattle.book.specs.Held.{noted}
 use Rattle.field.specs.declared.Field.the-variants.{Taken}
 use Rattle.field.specs.declared.Tag.the-variants.{End}
@@ -32,13 +37,13 @@ refused-requires c κs = search needs
 
 returns : tie.Need-returns Inv-loop μ-loop
 unfolding readBook
-returns c = c .refused .ensures ∙ ap readingOf (rw (lt-ltb _ _ (c .before .if1 .taken), readBook))
+returns c = c .refused .ensures ∙ ap readingOf (rw (lt-ltb maxBytes (length (now (c .before .before .before .args .book))) (omega arith), readBook))
 
 no-places-requires : tie.Need-no-places-requires Inv-loop μ-loop
 no-places-requires c κs = search needs
 
 loop-holds : tie.Need-loop-holds Inv-loop μ-loop
-loop-holds c = rw (c .no-places .ensures) (reads-start _ (c .before .if1 .left))
+loop-holds c = rw (c .no-places .ensures) (reads-start (now (c .before .before .before .args .book)) (omega arith))
 
 step-requires : tie.Need-step-requires Inv-loop μ-loop
 step-requires c κs = search needs
@@ -79,8 +84,12 @@ returns-4 : tie.Need-returns-4 Inv-loop μ-loop
 unfolding readingOf noted
 returns-4 c =
     let reads = c .before .before .before .before .before .before .before .loop .inv in
-    let end = sym (c .before .before .before .before .before .before .step .ensures) ∙ c .before .before .before .before .answer .given .1 ∙ ap (λ (t : Tag). Taken t (c .before .before .before .before .answer .given .0 .1 .0)) (c .enum-told2 .given .1) in
-    rw (c .before .before .noted .ensures, c .enum-told2 .given .1, noted, reads .held, reads .curve-count, reads .claim-count) (ap readingOf (sym (reads-end reads _ end)))
+    let answer = c .before .before .before .before .answer .given in
+    let end = sym (c .before .before .before .before .before .before .step .ensures) ∙ answer .1 ∙ ap (λ (t : Tag). Taken t (answer .0 .1 .0)) (c .enum-told2 .given .1) in
+    let places = rw (c .enum-told2 .given .1, noted) at (c .before .before .noted .ensures) in
+    ap (λ (b : Book). record { outcome = outcome.Sound; book = b })
+    (held-book _ (reads .curves) (reads .claims) _ _ _ (reads .curve-count) (reads .claim-count) (places ∙ reads .held))
+    ∙ ap readingOf (sym (reads-end reads _ end))
 
 loop-less : tie.Need-loop-less Inv-loop μ-loop
 loop-less c =

@@ -1,3 +1,7 @@
+use Rattle.field.specs.Layout.{idIn}
+use native.Mathlib.Omega.{arith}
+use denote.Ref.{now}
+use lib.ListN.{length}
 use Rattle.field.specs.Claims.{formFault}
 use Rattle.field.specs.Refusals.{unnamed}
 use borrow.Author.Tests.{le-leb, lt-leb, eq-eqb, ne-eqb}
@@ -7,7 +11,7 @@ use Rattle.field.proofs.claims.form_fault.Tie as tie
 
 returns : tie.Need-returns
 unfolding formFault
-returns c = rw (ne-eqb _ _ (c .if1 .taken), formFault)
+returns c = let a = c .before .before .args in rw (ne-eqb (length (now (a .content))) (a .size) (λ e. omega (arith, e, c .if1 .taken)), formFault)
 
 number1-requires : tie.Need-number1-requires
 number1-requires c κs = search needs
@@ -17,7 +21,9 @@ cast-if2 c = search needs
 
 returns-2 : tie.Need-returns-2
 unfolding formFault
-returns-2 c = rw (eq-eqb _ _ (c .before .before .if1 .left), le-leb _ _ (rw (c .before .number1 .ensures) at (c .if2 .taken)), formFault, unnamed)
+returns-2 c =
+    let a = c .before .before .before .before .args in
+    rw (eq-eqb (length (now (a .content))) (a .size) (omega arith), le-leb (a .curves) (idIn (now (a .content)) 1) (omega (arith, c .before .number1 .ensures)), formFault, unnamed)
 
 number1-requires-2 : tie.Need-number1-requires-2
 number1-requires-2 c κs = search needs
@@ -27,7 +33,15 @@ cast-if3 c = search needs
 
 returns-3 : tie.Need-returns-3
 unfolding formFault
-returns-3 c = rw (eq-eqb _ _ (c .before .before .before .before .if1 .left), lt-leb _ _ (rw (c .before .before .before .number1 .ensures) at (c .before .before .if2 .left)), le-leb _ _ (rw (c .before .number12 .ensures) at (c .if3 .taken)), formFault, unnamed)
+returns-3 c =
+    let a = c .before .before .before .before .before .before .args in
+    rw (
+      eq-eqb (length (now (a .content))) (a .size) (omega arith),
+      lt-leb (a .curves) (idIn (now (a .content)) 1) (omega (arith, c .before .before .before .number1 .ensures)),
+      le-leb (a .curves) (idIn (now (a .content)) 2) (omega (arith, c .before .number12 .ensures)),
+      formFault,
+      unnamed,
+    )
 
 number1-requires-3 : tie.Need-number1-requires-3
 number1-requires-3 c κs = search needs
@@ -37,11 +51,29 @@ cast-if4 c = search needs
 
 returns-4 : tie.Need-returns-4
 unfolding formFault
-returns-4 c = rw (eq-eqb _ _ (c .before .before .before .before .before .before .if1 .left), lt-leb _ _ (rw (c .before .before .before .before .before .number1 .ensures) at (c .before .before .before .before .if2 .left)), lt-leb _ _ (rw (c .before .before .before .number12 .ensures) at (c .before .before .if3 .left)), le-leb _ _ (rw (c .before .number13 .ensures) at (c .if4 .taken)), formFault, unnamed)
+returns-4 c =
+    let a = c .before .before .before .before .before .before .before .before .args in
+    rw (
+      eq-eqb (length (now (a .content))) (a .size) (omega arith),
+      lt-leb (a .curves) (idIn (now (a .content)) 1) (omega (arith, c .before .before .before .before .before .number1 .ensures)),
+      lt-leb (a .curves) (idIn (now (a .content)) 2) (omega (arith, c .before .before .before .number12 .ensures)),
+      le-leb (a .curves) (idIn (now (a .content)) (a .last)) (omega (arith, c .before .number13 .ensures)),
+      formFault,
+      unnamed,
+    )
 
 returns-5 : tie.Need-returns-5
 unfolding formFault
-returns-5 c = rw (eq-eqb _ _ (c .before .before .before .before .before .before .if1 .left), lt-leb _ _ (rw (c .before .before .before .before .before .number1 .ensures) at (c .before .before .before .before .if2 .left)), lt-leb _ _ (rw (c .before .before .before .number12 .ensures) at (c .before .before .if3 .left)), lt-leb _ _ (rw (c .before .number13 .ensures) at (c .if4 .left)), formFault, unnamed)
+returns-5 c =
+    let a = c .before .before .before .before .before .before .before .before .args in
+    rw (
+      eq-eqb (length (now (a .content))) (a .size) (omega arith),
+      lt-leb (a .curves) (idIn (now (a .content)) 1) (omega (arith, c .before .before .before .before .before .number1 .ensures)),
+      lt-leb (a .curves) (idIn (now (a .content)) 2) (omega (arith, c .before .before .before .number12 .ensures)),
+      lt-leb (a .curves) (idIn (now (a .content)) (a .last)) (omega (arith, c .before .number13 .ensures)),
+      formFault,
+      unnamed,
+    )
 
 pub form-fault-spec : {M : Type 1} → statement M
 form-fault-spec =

@@ -28,11 +28,11 @@ number2-requires-2 c κs = search needs
 number4-requires : tie.Need-number4-requires Inv-loop μ-loop
 number4-requires c κs = search needs
 
-add-count : tie.Need-add-count Inv-loop μ-loop
-add-count c = omega arith
+add-held : tie.Need-add-held Inv-loop μ-loop
+add-held c = omega arith
 
-cast-count : tie.Need-cast-count Inv-loop μ-loop
-cast-count c = search needs
+cast-held : tie.Need-cast-held Inv-loop μ-loop
+cast-held c = search needs
 
 loop-holds : tie.Need-loop-holds Inv-loop μ-loop
 loop-holds c = (
@@ -83,7 +83,7 @@ returns c =
     let content = now (c₄ .before .before .before .before .args .content) in
     let F : ℕ → ℕ = valueIn content in
     let n = now-at .n in
-    let e : c .before .before .before .before .if1 .count ≡ n = omega arith in
+    let e : c .before .before .before .before .if1 .held ≡ n = omega arith in
     let capped : min n 256 ≡ min (countIn content) 256 = omega arith in
     let listed : padded (take n (now-at .values)) ≡ padded (listOf F (countIn content)) =
     rw (now-at .inv .1 .1, filled-taken F 256 n, padded-listed F n, capped, padded-listed F (countIn content)) in
@@ -98,8 +98,8 @@ curve-in-spec =
     number2-requires
     number2-requires-2
     number4-requires
-    add-count
-    cast-count
+    add-held
+    cast-held
     loop-holds
     listed-in-requires
     mul-values

@@ -14,11 +14,8 @@ returns-2 c = (sym (number-torn 2 _ _ (omega arith)), omega arith)
 number1-requires : tie.Need-number1-requires
 number1-requires c κs = search needs
 
-cast-result : tie.Need-cast-result
-cast-result c = search needs
-
-mul-result : tie.Need-mul-result
-mul-result c = search needs
+cast-high : tie.Need-cast-high
+cast-high c = search needs
 
 add-number1 : tie.Need-add-number1
 add-number1 c = search needs
@@ -26,8 +23,11 @@ add-number1 c = search needs
 number1-requires-2 : tie.Need-number1-requires-2
 number1-requires-2 c κs = search needs
 
-cast-result-2 : tie.Need-cast-result-2
-cast-result-2 c = search needs
+cast-low : tie.Need-cast-low
+cast-low c = search needs
+
+mul-result : tie.Need-mul-result
+mul-result c = search needs
 
 add-result : tie.Need-add-result
 add-result c = search needs
@@ -45,10 +45,10 @@ number2-spec =
     returns
     returns-2
     number1-requires
-    cast-result
-    mul-result
+    cast-high
     add-number1
     number1-requires-2
-    cast-result-2
+    cast-low
+    mul-result
     add-result
     returns-3)

@@ -1,3 +1,7 @@
+use Rattle.field.specs.Steps.{fieldSize}
+use native.Mathlib.Omega.{arith}
+use denote.Ref.{now}
+use lib.ListN.{length}
 use Rattle.field.specs.Steps.{taggedFault}
 use borrow.Author.Tests.{lt-ltb, le-ltb}
 use borrow.Author.Needs.{needs}
@@ -29,7 +33,16 @@ add-size c = search needs
 
 returns-3 : tie.Need-returns-3
 unfolding taggedFault
-returns-3 c = rw (← c .before .before .before .before .before .in-order .ensures, c .before .before .before .before .if1 .left, ← c .before .before .before .full .ensures, c .before .before .if2 .left, lt-ltb _ _ (rw (c .before .number2 .ensures .0) at (c .if3 .taken)), taggedFault)
+returns-3 c =
+    let r = now (c .before .before .before .before .before .before .before .args .rest) in
+    rw (
+      ← c .before .before .before .before .before .in-order .ensures,
+      c .before .before .before .before .if1 .left,
+      ← c .before .before .before .full .ensures,
+      c .before .before .if2 .left,
+      lt-ltb (length r) (fieldSize r) (omega (arith, c .before .number2 .ensures .0)),
+      taggedFault,
+    )
 
 content-of-requires : tie.Need-content-of-requires
 content-of-requires c κs = search needs
@@ -42,7 +55,21 @@ content-fault-requires c κs = search needs
 
 returns-4 : tie.Need-returns-4
 unfolding taggedFault
-returns-4 c = rw (c .content-fault .ensures, c .before .content-of .ensures, ← c .before .before .before .before .before .before .before .in-order .ensures, c .before .before .before .before .before .before .if1 .left, ← c .before .before .before .before .before .full .ensures, c .before .before .before .before .if2 .left, le-ltb _ _ (rw (c .before .before .before .number2 .ensures .0) at (c .before .before .if3 .left)), taggedFault, c .before .before .before .number2 .ensures .0)
+returns-4 c =
+    let at = c .before .before in
+    let r = now (at .before .before .before .before .before .before .before .args .rest) in
+    let size = at .before .number2 .ensures .0 in
+    rw (
+      c .content-fault .ensures,
+      c .before .content-of .ensures,
+      ← at .before .before .before .before .before .in-order .ensures,
+      at .before .before .before .before .if1 .left,
+      ← at .before .before .before .full .ensures,
+      at .before .before .if2 .left,
+      le-ltb (length r) (fieldSize r) (omega (arith, size)),
+      taggedFault,
+      size,
+    )
 
 pub tagged-fault-spec : {M : Type 1} → statement M
 tagged-fault-spec =

@@ -1,3 +1,7 @@
+use Rattle.field.specs.Layout.{versionIn}
+use native.Mathlib.Omega.{arith}
+use denote.Ref.{now}
+use lib.ListN.{length}
 use Rattle.field.specs.Refusals.{versionFault}
 use borrow.Author.Tests.{eq-eqb, ne-eqb}
 use borrow.Author.Needs.{needs}
@@ -6,18 +10,24 @@ use Rattle.field.proofs.steps.version_fault.Tie as tie
 
 returns : tie.Need-returns
 unfolding versionFault
-returns c = rw (ne-eqb _ _ (c .if1 .taken), versionFault)
+returns c = rw (ne-eqb (length (now (c .before .before .args .content))) 1 (λ e. omega (arith, e, c .if1 .taken)), versionFault)
 
 number1-requires : tie.Need-number1-requires
 number1-requires c κs = search needs
 
 returns-2 : tie.Need-returns-2
 unfolding versionFault
-returns-2 c = rw (eq-eqb _ _ (c .before .before .if1 .left), ne-eqb _ _ (rw (c .before .number1 .ensures) at (c .if2 .taken)), versionFault)
+returns-2 c =
+    let s = now (c .before .before .before .before .args .content) in
+    let read = c .before .number1 .ensures in
+    rw (eq-eqb (length s) 1 (omega arith), ne-eqb (versionIn s) 1 (λ e. omega (arith, e, read, c .if2 .taken)), versionFault)
 
 returns-3 : tie.Need-returns-3
 unfolding versionFault
-returns-3 c = rw (eq-eqb _ _ (c .before .before .if1 .left), eq-eqb _ _ (rw (c .before .number1 .ensures) at (c .if2 .left)), versionFault)
+returns-3 c =
+    let s = now (c .before .before .before .before .args .content) in
+    let read = c .before .number1 .ensures in
+    rw (eq-eqb (length s) 1 (omega arith), eq-eqb (versionIn s) 1 (omega (arith, read)), versionFault)
 
 pub version-fault-spec : {M : Type 1} → statement M
 version-fault-spec = tie.close (tie.spec returns number1-requires returns-2 returns-3)
