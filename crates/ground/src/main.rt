@@ -50,7 +50,7 @@ fn value(f: Curve, tick: u32) {
 }
 
 // Kind 0 asks for the left curve's value at tick X. A curve that the line lacks is read as one of period 0, which is ill-formed.
-fn answer(line: &[u8], kind: u32, x: u32) {
+fn answer(line: &[u8], kind: u64, x: u32) {
     let left = read::past(line, 0, b'|');
     let right = read::past(line, left, b'|');
     let claimed = read::past(line, right, b'|');
@@ -80,22 +80,19 @@ fn case(line: &[u8]) {
     if line[0] == b'#' {
         return;
     }
-    let name = read::find(line, 0, b' ');
+    let name = lines::find(line, 0, b' ');
     io::write_all(1, &line[..name]);
-    let kind = read::number_at(line, name);
-    let x = read::number_at(line, kind.next);
-    answer(line, kind.value, x.value);
+    let kind = lines::number_at(line, name);
+    let x = lines::number_at(line, kind.next);
+    answer(line, kind.value, read::narrow(x.value));
 }
 
 fn cases(input: &[u8]) {
     let mut at: usize = 0;
     while at < input.len() {
-        let end = read::find(input, at, b'\n');
+        let end = lines::find(input, at, b'\n');
         case(&input[at..end]);
-        at = end;
-        if at < input.len() {
-            at += 1;
-        }
+        at = end + 1;
     }
 }
 

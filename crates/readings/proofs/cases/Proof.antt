@@ -14,7 +14,7 @@ loop-holds : tie.Need-loop-holds Inv-loop μ-loop
 loop-holds c = tt
 
 find-requires : tie.Need-find-requires Inv-loop μ-loop
-find-requires c κs = omega arith
+find-requires c κs = tt
 
 sub-case : tie.Need-sub-case Inv-loop μ-loop
 sub-case c = omega arith

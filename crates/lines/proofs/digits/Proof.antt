@@ -1,17 +1,19 @@
 use Prim.Native.Nat.{_-_}
 use native.Mathlib.Omega.{arith}
 use lib.ListN.{length}
-use Rattle.ground.proofs.read.digits.Statement.{statement}
-use Rattle.ground.proofs.read.digits.Tie as tie
+use mathlib.Core.Path.{_≡_, refl, sym, _∙_}
+use Rattle.lines.specs.Parts.{numberFrom, number-end, number-low, number-high, number-on}
+use Rattle.lines.proofs.digits.Statement.{statement}
+use Rattle.lines.proofs.digits.Tie as tie
 
 abbrev Inv-loop : tie.InvT-loop
-Inv-loop s from value₀ next₀ value next = Unit {0}
+Inv-loop s from value₀ next₀ value next = numberFrom value s next ≡ numberFrom 0 s from
 
 abbrev μ-loop : tie.MeasureT-loop
 μ-loop s from value₀ next₀ value next = length s - next
 
 loop-holds : tie.Need-loop-holds Inv-loop μ-loop
-loop-holds c = tt
+loop-holds c = refl
 
 shared-slice-read-c : tie.Need-shared-slice-read-c Inv-loop μ-loop
 shared-slice-read-c c = omega arith
@@ -26,16 +28,16 @@ loop-less : tie.Need-loop-less Inv-loop μ-loop
 loop-less c = omega arith
 
 loop-again : tie.Need-loop-again Inv-loop μ-loop
-loop-again c = tt
+loop-again c = rw (c .with-digit .ensures) (sym (number-on _ _ _ (omega arith) (omega arith) (omega arith)) ∙ c .before .before .before .before .before .loop .inv)
 
 returns : tie.Need-returns Inv-loop μ-loop
-returns c = tt
+returns c = sym (number-end _ _ _ (omega arith)) ∙ c .before .loop .inv
 
 returns-2 : tie.Need-returns-2 Inv-loop μ-loop
-returns-2 c = tt
+returns-2 c = sym (number-low _ _ _ (omega arith) (c .if1 .taken)) ∙ c .before .before .before .loop .inv
 
 returns-3 : tie.Need-returns-3 Inv-loop μ-loop
-returns-3 c = tt
+returns-3 c = sym (number-high _ _ _ (omega arith) (c .if2 .taken)) ∙ c .before .before .before .before .loop .inv
 
 pub digits-spec : {M : Type 1} → statement M
 digits-spec =

@@ -1,0 +1,2 @@
+-- The parts of a line of text.
+pub mod Parts
