@@ -1,7 +1,7 @@
 -- What the code holds of a book that it reads.
 --
 --     inArray          a list at the front of an array
---     readingOf        the answer as the code's struct: a refused book holds nothing
+--     readingOf        the answer as the code's struct: a refused book holds nothing; passedUp: from a field's answer
 --     noted            the places with one more field
 use Prim.Native.Nat.{ℕ, zero, suc, _+_, _-_, _≤_, _<_}
 use mathlib.Core.Path.{_≡_, refl, sym, ap, ap₂, _∙_}
@@ -12,6 +12,7 @@ use borrow.Author.Tests.{le-ltb, leb-false}
 use lib.ListN.{length, getD, set, replicate, length-append, List·getD-append}
 use lib.Seq.{set-at}
 use Rattle.field.specs.declared.Refusal.{Refusal}
+use Rattle.field.specs.declared.Field.{Field}
 use Rattle.field.specs.declared.Field.the-variants as field
 use Rattle.field.specs.declared.Tag.{Tag}
 use Rattle.field.specs.declared.Tag.the-variants as tag
@@ -34,10 +35,21 @@ placesOf curves claims = record { curves = inArray maxCurves curves; claims = in
 abbrev pub bookOf : Contents → Book
 bookOf c = record { version = c .version; curves = length (c .curves); claims = length (c .claims); places = placesOf (c .curves) (c .claims) }
 
+abbrev pub nothing : Book
+nothing = bookOf (record { version = 0; curves = []; claims = [] })
+
 unfoldable pub readingOf : Read → Reading
 unfolding inArray
 readingOf (sound c) = record { outcome = outcome.Sound; book = bookOf c }
-readingOf (refused x p) = record { outcome = outcome.Refused x p; book = bookOf (record { version = 0; curves = []; claims = [] }) }
+readingOf (refused x p) = record { outcome = outcome.Refused x p; book = nothing }
+
+-- a field's refusal as the book's
+abbrev pub outcomeOf : Field → Outcome
+outcomeOf (field.Refused x p) = outcome.Refused x p
+outcomeOf (field.Taken t next) = outcome.Sound
+
+abbrev pub passedUp : Field → Reading
+passedUp answer = record { outcome = outcomeOf answer; book = nothing }
 
 unfoldable pub noted : Places → Tag → State → Places
 noted places tag.Version st = places

@@ -4,7 +4,6 @@
 --     Read             what any list of bytes is
 --     readOn, readFrom     field by field, from a state on
 --     readBook         a book
---     curveOfBook      curve k of a sound book
 use Prim.Native.Nat.{ℕ, zero, suc, _+_}
 use mathlib.Core.Bool.{true, false}
 use mathlib.Core.List.{List, [], _∷_, _++_}

@@ -1,7 +1,7 @@
 -- A curve's value, asked of a book. Document 01: "A curve's value is asked of a book by curve number and tick. A bad book gives its refusal; then a
 -- number that names no curve is 11, a tick above 2,000,000,000 is 12, both with place 0 and no value."
 --
---     curveOf          curve k of a sound book
+--     namedCurve          curve k of a sound book
 --     valueAsked       the answer
 --     refusalWord      a refusal and its place as one number, as the harness gets it
 --     told             the answer for C; asked-near: its place fits
@@ -26,8 +26,8 @@ use Rattle.book.specs.Sound.{refused-inside}
 abbrev pub maxTick : ℕ
 maxTick = 2_000_000_000
 
-abbrev pub curveOf : List ℕ → Contents → ℕ → Curve
-curveOf s c k = curveIn (contentAt s (getD (c .curves) k 0))
+abbrev pub namedCurve : List ℕ → Contents → ℕ → Curve
+namedCurve s c k = curveIn (contentAt s (getD (c .curves) k 0))
 
 unfoldable pub askedOf : List ℕ → Read → ℕ → ℕ → Asked
 unfolding value
@@ -35,7 +35,7 @@ askedOf s (refused x p) k n = asked.Refused x p
 askedOf s (sound c) k n =
     elim (leb (length (c .curves)) k) [
       | true ↦ asked.Refused NoSuchCurve 0
-      | false ↦ elim (ltb maxTick n) [ true ↦ asked.Refused TooLarge 0 | false ↦ asked.Value (record { 0 = value (curveOf s c k) n }) ]
+      | false ↦ elim (ltb maxTick n) [ true ↦ asked.Refused TooLarge 0 | false ↦ asked.Value (record { 0 = value (namedCurve s c k) n }) ]
     ]
 
 unfoldable pub valueAsked : List ℕ → ℕ → ℕ → Asked
@@ -60,7 +60,7 @@ module _ (s : List ℕ) (k n : ℕ) (c : Contents) where
   within : (b b′ : Bool)
       → placeIn (elim b as (λ _. Asked) [
         | true ↦ asked.Refused NoSuchCurve 0
-        | false ↦ elim b′ as (λ _. Asked) [ true ↦ asked.Refused TooLarge 0 | false ↦ asked.Value (record { 0 = value (curveOf s c k) n }) ]
+        | false ↦ elim b′ as (λ _. Asked) [ true ↦ asked.Refused TooLarge 0 | false ↦ asked.Value (record { 0 = value (namedCurve s c k) n }) ]
       ]) ≤ maxBytes
   within true b′ = omega arith
   within false true = omega arith

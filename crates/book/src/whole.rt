@@ -1,8 +1,8 @@
 // The whole book, field by field.
 ghost use mathlib.Core.Path.{_≡_};
 ghost use mathlib.Core.List.{[]};
-ghost use Rattle.book.specs.Reading.{readBook, refused};
-ghost use Rattle.book.specs.Held.{placesOf, readingOf, Notable, noted};
+ghost use Rattle.book.specs.Reading.{readBook};
+ghost use Rattle.book.specs.Held.{placesOf, readingOf, passedUp, Notable, noted};
 use crate::Book;
 use crate::Outcome;
 use crate::Places;
@@ -22,11 +22,16 @@ fn no_places() -> Places
     }
 }
 
-fn refused(refusal: Refusal, place: usize) -> Reading
-    ensures { λ r. ⌜ r ≡ readingOf (refused refusal place) ⌝ }
+// A refusal, passed up with its place. A field that is taken refuses nothing.
+fn passed_up(answer: Field) -> Reading
+    ensures { λ r. ⌜ r ≡ passedUp answer ⌝ }
 {
+    let outcome = match answer {
+        Field::Refused(refusal, place) => Outcome::Refused(refusal, place),
+        Field::Taken(_, _) => Outcome::Sound,
+    };
     Reading {
-        outcome: Outcome::Refused(refusal, place),
+        outcome,
         book: Book {
             version: 0,
             curves: 0,
@@ -63,7 +68,7 @@ pub fn read(book: &[u8]) -> Reading
     ensures { λ r. ⌜ r ≡ readingOf (readBook (now (book .entry))) ⌝ }
 {
     if Book::MAX_BYTES < book.len() {
-        return refused(Refusal::BookTooLong, 0);
+        return passed_up(Field::Refused(Refusal::BookTooLong, 0));
     }
     let mut state = State {
         version: 0,
@@ -75,14 +80,7 @@ pub fn read(book: &[u8]) -> Reading
     loop {
         let answer = step(book, state);
         let Field::Taken(tag, next) = answer else {
-            match answer {
-                Field::Refused(refusal, place) => {
-                    return refused(refusal, place);
-                }
-                Field::Taken(_, _) => {
-                    return refused(Refusal::Torn, 0);
-                }
-            }
+            return passed_up(answer);
         };
         places = noted(places, tag, state);
         if let Tag::End = tag {

@@ -13,6 +13,18 @@ use crate::steps::content_at;
 use curve::Claim;
 use curve::Named;
 
+// Where the ids stand. The third is h; X stands there too.
+const LEFT: usize = 1;
+
+const RIGHT: usize = 2;
+
+const THIRD: usize = 3;
+
+// How long a claim of kinds 1 to 3 is, and one of kinds 4 to 7.
+const WITH_H: usize = 4;
+
+const WITH_X: usize = 7;
+
 // A content of a kind, but for X: its size, and the ids after the kind, of which `last` is the last.
 fn form_fault(content: &[u8], curves: usize, size: usize, last: usize) -> Checked
     ensures { λ r. ⌜ r ≡ formFault size last curves (now (content .entry)) ⌝ }
@@ -20,10 +32,10 @@ fn form_fault(content: &[u8], curves: usize, size: usize, last: usize) -> Checke
     if content.len() != size {
         return Checked::Refused(Refusal::WrongClaim);
     }
-    if curves <= number1(content, 1) as usize {
+    if curves <= number1(content, LEFT) as usize {
         return Checked::Refused(Refusal::NoSuchCurve);
     }
-    if curves <= number1(content, 2) as usize {
+    if curves <= number1(content, RIGHT) as usize {
         return Checked::Refused(Refusal::NoSuchCurve);
     }
     if curves <= number1(content, last) as usize {
@@ -38,8 +50,8 @@ fn stated(fault: Checked, claim: Claim, claimed: u8, content: &[u8]) -> ClaimFie
     match fault {
         Checked::Refused(refusal) => ClaimField::Refused(refusal),
         Checked::Sound => {
-            let left = number1(content, 1) as usize;
-            let right = number1(content, 2) as usize;
+            let left = number1(content, LEFT) as usize;
+            let right = number1(content, RIGHT) as usize;
             ClaimField::Stated(Stated {
                 claim,
                 left,
@@ -54,11 +66,11 @@ fn stated(fault: Checked, claim: Claim, claimed: u8, content: &[u8]) -> ClaimFie
 fn claim_in(content: &[u8], curves: usize) -> ClaimField
     ensures { λ r. ⌜ r ≡ claimField curves (now (content .entry)) ⌝ }
 {
-    let named = Claim::new(number1(content, 0), number4(content, 3));
+    let named = Claim::new(number1(content, 0), number4(content, THIRD));
     match named {
         Named::UnknownKind => ClaimField::Refused(Refusal::WrongClaim),
         Named::XTooLarge => {
-            let fault = form_fault(content, curves, 7, 2);
+            let fault = form_fault(content, curves, WITH_X, RIGHT);
             match fault {
                 Checked::Refused(refusal) => ClaimField::Refused(refusal),
                 Checked::Sound => ClaimField::Refused(Refusal::TooLarge),
@@ -66,13 +78,23 @@ fn claim_in(content: &[u8], curves: usize) -> ClaimField
         }
         Named::Claim(claim) => match claim {
             Claim::Equals(_) => stated(
-                form_fault(content, curves, 4, 3),
+                form_fault(content, curves, WITH_H, THIRD),
                 claim,
-                number1(content, 3),
+                number1(content, THIRD),
                 content,
             ),
-            Claim::AtMost(_) => stated(form_fault(content, curves, 7, 2), claim, 0, content),
-            Claim::Exactly(_) => stated(form_fault(content, curves, 7, 2), claim, 0, content),
+            Claim::AtMost(_) => stated(
+                form_fault(content, curves, WITH_X, RIGHT),
+                claim,
+                0,
+                content,
+            ),
+            Claim::Exactly(_) => stated(
+                form_fault(content, curves, WITH_X, RIGHT),
+                claim,
+                0,
+                content,
+            ),
         },
     }
 }

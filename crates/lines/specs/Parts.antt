@@ -7,7 +7,7 @@
 --     place-end, place-here, place-on          placeFrom, by what stands at i
 --     number-end, number-stop, number-on       numberFrom, likewise
 use Prim.Native.Nat.{ℕ, suc, _+_, _-_, _*_, _≤_, _<_, min}
-use mathlib.Core.Path.{_≡_, refl, ap, _∙_}
+use mathlib.Core.Path.{_≡_}
 use mathlib.Core.Bool.{true, false}
 use mathlib.Core.List.{List, [], _∷_}
 use native.Mathlib.Omega.{arith}

@@ -1,8 +1,7 @@
 // The reader's answers on the books of data/. Standard input has the questions, a line each: a book's name; a name and a claim's number; a name, a curve's number and a tick.
-use book::Asked;
 use book::Book;
 use book::Outcome;
-use book::values::value_in;
+use book::values::curve_value;
 use book::whole::read;
 use curve::Claim;
 use curve::Deviation;
@@ -44,11 +43,15 @@ fn reading(bytes: &[u8]) {
     }
 }
 
+// Asked as C asks it: the refusal's number and place in one.
 fn value(bytes: &[u8], curve: u64, tick: u64) {
-    match value_in(bytes, curve, tick) {
-        Asked::Value(value) => part(b" value ", value.0),
-        Asked::Refused(refusal, place) => refused(refusal, place),
+    let answer = curve_value(bytes, curve, tick);
+    if answer.refusal == 0 {
+        part(b" value ", answer.value);
+        return;
     }
+    part(b" refused ", answer.refusal % 256);
+    part(b" at ", answer.refusal / 256);
 }
 
 // What is claimed; of kinds 4 to 7, X.

@@ -1,9 +1,7 @@
-use Rattle.book.specs.Held.{held-book}
-use Rattle.book.specs.Reading.{maxBytes}
 use Rattle.book.specs.declared.Outcome.the-variants as outcome
 use Rattle.book.specs.declared.Book.{Book}
 use denote.Ref.{now}
-use Rattle.book.specs.Held.{noted}
+use Rattle.field.specs.declared.Refusal.the-variants.{BookTooLong}
 use Rattle.field.specs.declared.Field.the-variants.{Taken}
 use Rattle.field.specs.declared.Tag.the-variants.{End}
 use Rattle.field.specs.declared.Tag.{Tag}
@@ -11,14 +9,14 @@ use Rattle.field.proofs.Tag.{the-type}
 use denote.Enum.Declared.{tagOf}
 use types.Run.{OneOf, miss}
 use mathlib.Core.List.{[], _∷_}
-use Prim.Native.Nat.{ℕ, _-_}
+use Prim.Native.Nat.{_-_}
 use mathlib.Core.Path.{_≡_, sym, ap, subst, _∙_}
 use native.Mathlib.Omega.{arith}
 use lib.ListN.{length}
 use borrow.Author.Tests.{lt-ltb}
 use borrow.Author.Needs.{needs}
-use Rattle.book.specs.Reading.{readBook}
-use Rattle.book.specs.Held.{readingOf, Reads, reads-start, reads-refused, reads-end, reads-more, place-inside, notable}
+use Rattle.book.specs.Reading.{refused, maxBytes, readBook}
+use Rattle.book.specs.Held.{readingOf, passedUp, noted, held-book, Reads, reads-start, reads-refused, reads-end, reads-more, place-inside, notable}
 use Rattle.book.proofs.whole.read.Statement.{statement}
 use Rattle.book.proofs.whole.read.Tie as tie
 
@@ -32,12 +30,15 @@ Inv-loop book state₀ places₀ state places = Reads book state places
 abbrev μ-loop : tie.MeasureT-loop
 μ-loop book state₀ places₀ state places = length book - state .place
 
-refused-requires : tie.Need-refused-requires Inv-loop μ-loop
-refused-requires c κs = search needs
+passed-up-requires : tie.Need-passed-up-requires Inv-loop μ-loop
+passed-up-requires c κs = search needs
 
 returns : tie.Need-returns Inv-loop μ-loop
-unfolding readBook
-returns c = c .refused .ensures ∙ ap readingOf (rw (lt-ltb maxBytes (length (now (c .before .before .before .args .book))) (omega arith), readBook))
+unfolding readBook readingOf
+returns c =
+    let s = now (c .before .before .before .args .book) in
+    let long : readBook s ≡ refused BookTooLong 0 = rw (lt-ltb maxBytes (length s) (omega arith), readBook) in
+    c .passed-up .ensures ∙ ap readingOf (sym long)
 
 no-places-requires : tie.Need-no-places-requires Inv-loop μ-loop
 no-places-requires c κs = search needs
@@ -51,38 +52,29 @@ step-requires c κs = search needs
 enum-known-answer : tie.Need-enum-known-answer Inv-loop μ-loop
 enum-known-answer c = search needs
 
-enum-known-answer-2 : tie.Need-enum-known-answer-2 Inv-loop μ-loop
-enum-known-answer-2 c = search needs
-
-enum-known-answer-3 : tie.Need-enum-known-answer-3 Inv-loop μ-loop
-enum-known-answer-3 c = search needs
-
-refused-requires-2 : tie.Need-refused-requires-2 Inv-loop μ-loop
-refused-requires-2 c κs = search needs
-
-returns-2 : tie.Need-returns-2 Inv-loop μ-loop
-returns-2 c =
-    c .refused2 .ensures
-    ∙ ap readingOf (sym (reads-refused (c .before .before .before .before .before .before .before .before .loop .inv) _ _ (sym (c .before .before .before .before .before .before .before .step .ensures) ∙ c .before .before .before .before .before .answer2 .given .1 ∙ c .before .before .answer3 .given .1)))
-
 enum-told : tie.Need-enum-told Inv-loop μ-loop
 enum-told c = search needs
 
-refused-requires-3 : tie.Need-refused-requires-3 Inv-loop μ-loop
-refused-requires-3 c κs = search needs
+passed-up-requires-2 : tie.Need-passed-up-requires-2 Inv-loop μ-loop
+passed-up-requires-2 c κs = search needs
 
-returns-3 : tie.Need-returns-3 Inv-loop μ-loop
-returns-3 c = let other = c .before .enum-told .given .1 in let z : _≡_ {A = ℕ} 0 1 = cc in absurd (omega (arith, z))
+returns-2 : tie.Need-returns-2 Inv-loop μ-loop
+unfolding readingOf
+returns-2 c =
+    let told = c .before .enum-told .given .1 in
+    c .passed-up2 .ensures ∙ ap passedUp told
+    ∙ ap readingOf (sym (reads-refused (c .before .before .before .before .loop .inv) _ _ (sym (c .before .before .before .step .ensures) ∙ told)))
 
 noted-requires : tie.Need-noted-requires Inv-loop μ-loop
-noted-requires c κs = notable (c .before .before .before .before .loop .inv) _ _ (sym (c .before .before .before .step .ensures) ∙ c .before .answer .given .1)
+noted-requires c κs =
+    notable (c .before .before .before .before .loop .inv) _ _ (sym (c .before .before .before .step .ensures) ∙ c .before .answer .given .1)
 
 enum-told-2 : tie.Need-enum-told-2 Inv-loop μ-loop
 enum-told-2 c = search needs
 
-returns-4 : tie.Need-returns-4 Inv-loop μ-loop
+returns-3 : tie.Need-returns-3 Inv-loop μ-loop
 unfolding readingOf noted
-returns-4 c =
+returns-3 c =
     let reads = c .before .before .before .before .before .before .before .loop .inv in
     let answer = c .before .before .before .before .answer .given in
     let end = sym (c .before .before .before .before .before .before .step .ensures) ∙ answer .1 ∙ ap (λ (t : Tag). Taken t (answer .0 .1 .0)) (c .enum-told2 .given .1) in
@@ -99,7 +91,7 @@ loop-less c =
 loop-again : tie.Need-loop-again Inv-loop μ-loop
 loop-again c =
     rw (c .before .noted .ensures)
-    (reads-more (c .before .before .before .before .before .before .loop .inv) _ _ (sym (c .before .before .before .before .before .step .ensures) ∙ c .before .before .before .answer .given .1) (not-end _ (c .match3 .keys2)))
+    (reads-more (c .before .before .before .before .before .before .loop .inv) _ _ (sym (c .before .before .before .before .before .step .ensures) ∙ c .before .before .before .answer .given .1) (not-end _ (c .match2 .keys2)))
 
 pub read-spec : {M : Type 1} → statement M
 read-spec =
@@ -107,21 +99,17 @@ read-spec =
     (tie.spec
     Inv-loop
     μ-loop
-    refused-requires
+    passed-up-requires
     returns
     no-places-requires
     loop-holds
     step-requires
     enum-known-answer
-    enum-known-answer-2
-    enum-known-answer-3
-    refused-requires-2
-    returns-2
     enum-told
-    refused-requires-3
-    returns-3
+    passed-up-requires-2
+    returns-2
     noted-requires
     enum-told-2
-    returns-4
+    returns-3
     loop-less
     loop-again)
