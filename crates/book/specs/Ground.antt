@@ -7,12 +7,12 @@
 use Prim.Native.Nat.{ℕ}
 use mathlib.Core.Path.{_≡_, refl}
 use mathlib.Core.List.{List, [], _∷_, _++_}
+use Rattle.minplus.specs.Claim.{kindBy}
 use Rattle.curve.specs.declared.Deviation.the-variants.{Delay}
 use Rattle.curve.specs.declared.Claim.the-variants.{Exactly}
+use Rattle.curve.specs.Filled.{listOf}
 use Rattle.field.specs.declared.Refusal.the-variants.{Torn}
 use Rattle.field.specs.declared.ClaimField.the-variants.{Stated}
-use Rattle.minplus.specs.Claim.{kindBy}
-use Rattle.curve.specs.Filled.{listOf}
 use Rattle.field.specs.Numbers.{numberAt}
 use Rattle.field.specs.Layout.{tagBy, contentAt}
 use Rattle.field.specs.Refusals.{claimField}

@@ -8,22 +8,22 @@ use mathlib.Core.Path.{_≡_, refl, sym, ap, ap₂, _∙_}
 use mathlib.Core.Bool.{false}
 use mathlib.Core.List.{List, [], _∷_, _++_, append-assoc}
 use native.Mathlib.Omega.{arith}
-use borrow.Author.Tests.{le-ltb, leb-false}
 use lib.ListN.{length, getD, set, replicate, length-append, List·getD-append}
 use lib.Seq.{set-at}
+use borrow.Author.Tests.{le-ltb, leb-false}
 use Rattle.field.specs.declared.Refusal.{Refusal}
 use Rattle.field.specs.declared.Field.{Field}
 use Rattle.field.specs.declared.Field.the-variants as field
 use Rattle.field.specs.declared.Tag.{Tag}
 use Rattle.field.specs.declared.Tag.the-variants as tag
 use Rattle.field.specs.declared.State.{State}
+use Rattle.field.specs.Refusals.{maxCurves, maxClaims}
+use Rattle.field.specs.Steps.{full, after, stepAt, takes, next-inside}
 use Rattle.book.specs.declared.Places.{Places}
 use Rattle.book.specs.declared.Book.{Book}
 use Rattle.book.specs.declared.Outcome.{Outcome}
 use Rattle.book.specs.declared.Outcome.the-variants as outcome
 use Rattle.book.specs.declared.Reading.{Reading}
-use Rattle.field.specs.Refusals.{maxCurves, maxClaims}
-use Rattle.field.specs.Steps.{full, after, stepAt, takes, next-inside}
 use Rattle.book.specs.Reading.{Contents, Read, sound, refused, maxBytes, start, readFrom, readBook}
 
 unfoldable pub inArray : ℕ → List ℕ → List ℕ

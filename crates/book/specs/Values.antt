@@ -15,11 +15,11 @@ use lib.Dec.{leb, ltb}
 use Rattle.minplus.specs.Curve.{Curve, value}
 use Rattle.field.specs.declared.Refusal.{Refusal}
 use Rattle.field.specs.declared.Refusal.the-variants.{NoSuchCurve, TooLarge}
+use Rattle.field.specs.Layout.{curveIn, contentAt}
+use Rattle.field.specs.Refusals.{numberOf}
 use Rattle.book.specs.declared.Asked.{Asked}
 use Rattle.book.specs.declared.Asked.the-variants as asked
 use Rattle.book.specs.declared.CurveValue.{CurveValue}
-use Rattle.field.specs.Layout.{curveIn, contentAt}
-use Rattle.field.specs.Refusals.{numberOf}
 use Rattle.book.specs.Reading.{Contents, Read, sound, refused, maxBytes, readBook}
 use Rattle.book.specs.Sound.{refused-inside}
 

@@ -1,9 +1,9 @@
 use mathlib.Core.Path.{ap, _∙_}
 use denote.Ref.{now}
 use Rattle.lines.specs.Parts.{numberFrom}
-use borrow.Author.Needs.{needs}
 use Rattle.lines.proofs.number_at.Statement.{statement}
 use Rattle.lines.proofs.number_at.Tie as tie
+use borrow.Author.Needs.{needs}
 
 past-space-requires : tie.Need-past-space-requires
 past-space-requires c κs = search needs

@@ -1,10 +1,10 @@
-use Rattle.lines.specs.Parts.{pastSpace}
-use borrow.Author.Tests.{eq-eqb, ne-eqb}
 use native.Mathlib.Omega.{arith}
 use lib.ListN.{getD, List·getD-eq-default}
-use borrow.Author.Needs.{needs}
+use borrow.Author.Tests.{eq-eqb, ne-eqb}
+use Rattle.lines.specs.Parts.{pastSpace}
 use Rattle.lines.proofs.past_space.Statement.{statement}
 use Rattle.lines.proofs.past_space.Tie as tie
+use borrow.Author.Needs.{needs}
 
 shared-slice-read-if2 : tie.Need-shared-slice-read-if2
 shared-slice-read-if2 c = search needs

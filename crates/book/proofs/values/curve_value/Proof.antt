@@ -1,11 +1,11 @@
+use Prim.Native.Nat.{_≤_}
+use mathlib.Core.Path.{sym, ap, _∙_}
+use native.Mathlib.Omega.{arith}
 use Rattle.book.specs.Values.{told, asked-near}
 use Rattle.book.specs.Reading.{maxBytes}
-use native.Mathlib.Omega.{arith}
-use mathlib.Core.Path.{sym, ap, _∙_}
-use Prim.Native.Nat.{_≤_}
-use borrow.Author.Needs.{needs}
 use Rattle.book.proofs.values.curve_value.Statement.{statement}
 use Rattle.book.proofs.values.curve_value.Tie as tie
+use borrow.Author.Needs.{needs}
 
 value-in-requires : tie.Need-value-in-requires
 value-in-requires c κs = search needs

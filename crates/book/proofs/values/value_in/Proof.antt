@@ -1,24 +1,24 @@
-use Rattle.book.specs.Held.{readingOf, array-at, outcome-refused, outcome-sound}
-use Rattle.book.specs.Sound.{sound-book}
-use Rattle.field.specs.Sound.{curve-well-formed}
-use Rattle.book.specs.Values.{maxTick, askedOf, valueAsked}
-use Rattle.book.specs.Reading.{Contents, Read, sound, readBook}
-use Rattle.field.specs.Layout.{contentAt, curveIn}
-use Rattle.book.specs.declared.Asked.the-variants as asked
-use Rattle.book.specs.declared.Reading.{Reading}
-use Rattle.curve.specs.Held as held-curves
-use Rattle.curve.specs.declared.Curve as held-curve
-use Rattle.minplus.specs.Curve.{Curve, value}
-use borrow.Author.Tests.{le-leb, lt-leb, lt-ltb, le-ltb}
-use denote.Ref.{now}
-use lib.ListN.{length, getD}
-use native.Mathlib.Omega.{arith}
+use Prim.Native.Nat.{ℕ, _≤_, _<_}
 use mathlib.Core.List.{List}
 use mathlib.Core.Path.{_≡_, sym, ap, _∙_}
-use Prim.Native.Nat.{ℕ, _≤_, _<_}
-use borrow.Author.Needs.{needs}
+use native.Mathlib.Omega.{arith}
+use lib.ListN.{length, getD}
+use denote.Ref.{now}
+use borrow.Author.Tests.{le-leb, lt-leb, lt-ltb, le-ltb}
+use Rattle.minplus.specs.Curve.{Curve, value}
+use Rattle.curve.specs.Held as held-curves
+use Rattle.curve.specs.declared.Curve as held-curve
+use Rattle.field.specs.Sound.{curve-well-formed}
+use Rattle.field.specs.Layout.{contentAt, curveIn}
+use Rattle.book.specs.Held.{readingOf, array-at, outcome-refused, outcome-sound}
+use Rattle.book.specs.Sound.{sound-book}
+use Rattle.book.specs.Values.{maxTick, askedOf, valueAsked}
+use Rattle.book.specs.Reading.{Contents, Read, sound, readBook}
+use Rattle.book.specs.declared.Asked.the-variants as asked
+use Rattle.book.specs.declared.Reading.{Reading}
 use Rattle.book.proofs.values.value_in.Statement.{statement}
 use Rattle.book.proofs.values.value_in.Tie as tie
+use borrow.Author.Needs.{needs}
 
 read-requires : tie.Need-read-requires
 read-requires c κs = search needs

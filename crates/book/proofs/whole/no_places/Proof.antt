@@ -1,5 +1,5 @@
-use Rattle.book.specs.Held.{inArray}
 use mathlib.Core.Path.{refl}
+use Rattle.book.specs.Held.{inArray}
 use Rattle.book.proofs.whole.no_places.Statement.{statement}
 use Rattle.book.proofs.whole.no_places.Tie as tie
 

@@ -1,12 +1,12 @@
-use Rattle.book.specs.Held.{noted}
+use Prim.Native.Nat.{_<_}
+use native.Mathlib.Omega.{arith}
+use borrow.Author.Tests.{leb-false}
 use Rattle.field.specs.Refusals.{maxCurves, maxClaims}
 use Rattle.field.specs.Steps.{full}
-use borrow.Author.Tests.{leb-false}
-use native.Mathlib.Omega.{arith}
-use Prim.Native.Nat.{_<_}
-use borrow.Author.Needs.{needs}
+use Rattle.book.specs.Held.{noted}
 use Rattle.book.proofs.whole.noted.Statement.{statement}
 use Rattle.book.proofs.whole.noted.Tie as tie
+use borrow.Author.Needs.{needs}
 
 enum-told : tie.Need-enum-told
 enum-told c = search needs

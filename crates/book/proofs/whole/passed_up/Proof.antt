@@ -1,11 +1,11 @@
+use mathlib.Core.Logic.{⊎-elim}
+use mathlib.Core.Path.{sym, ap, ap₂, _∙_}
 use Rattle.book.specs.Held.{outcomeOf}
 use Rattle.book.specs.declared.Places.{Places}
 use Rattle.book.specs.declared.Outcome.{Outcome}
-use mathlib.Core.Logic.{⊎-elim}
-use mathlib.Core.Path.{sym, ap, ap₂, _∙_}
-use borrow.Author.Needs.{needs}
 use Rattle.book.proofs.whole.passed_up.Statement.{statement}
 use Rattle.book.proofs.whole.passed_up.Tie as tie
+use borrow.Author.Needs.{needs}
 
 enum-known-answer : tie.Need-enum-known-answer
 enum-known-answer c = search needs

@@ -1,24 +1,24 @@
-use Rattle.book.specs.declared.Outcome.the-variants as outcome
-use Rattle.book.specs.declared.Book.{Book}
+use Prim.Native.Nat.{_-_}
+use mathlib.Core.List.{[], _∷_}
+use mathlib.Core.Path.{_≡_, sym, ap, subst, _∙_}
+use native.Mathlib.Omega.{arith}
+use lib.ListN.{length}
 use denote.Ref.{now}
+use denote.Enum.Declared.{tagOf}
+use types.Run.{OneOf, miss}
+use borrow.Author.Tests.{lt-ltb}
 use Rattle.field.specs.declared.Refusal.the-variants.{BookTooLong}
 use Rattle.field.specs.declared.Field.the-variants.{Taken}
 use Rattle.field.specs.declared.Tag.the-variants.{End}
 use Rattle.field.specs.declared.Tag.{Tag}
 use Rattle.field.proofs.Tag.{the-type}
-use denote.Enum.Declared.{tagOf}
-use types.Run.{OneOf, miss}
-use mathlib.Core.List.{[], _∷_}
-use Prim.Native.Nat.{_-_}
-use mathlib.Core.Path.{_≡_, sym, ap, subst, _∙_}
-use native.Mathlib.Omega.{arith}
-use lib.ListN.{length}
-use borrow.Author.Tests.{lt-ltb}
-use borrow.Author.Needs.{needs}
+use Rattle.book.specs.declared.Outcome.the-variants as outcome
+use Rattle.book.specs.declared.Book.{Book}
 use Rattle.book.specs.Reading.{refused, maxBytes, readBook}
 use Rattle.book.specs.Held.{readingOf, passedUp, noted, held-book, Reads, reads-start, reads-refused, reads-end, reads-more, place-inside, notable}
 use Rattle.book.proofs.whole.read.Statement.{statement}
 use Rattle.book.proofs.whole.read.Tie as tie
+use borrow.Author.Needs.{needs}
 
 -- what `if let Tag::End` leaves: one of the other three
 not-end : (t : Tag) → OneOf (0 ∷ 1 ∷ 2 ∷ []) (tagOf the-type t) → t ≡ End → ⊥

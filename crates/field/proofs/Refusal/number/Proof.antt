@@ -1,7 +1,7 @@
 use Rattle.field.specs.Refusals.{numberOf}
-use borrow.Author.Needs.{needs}
 use Rattle.field.proofs.Refusal.number.Statement.{statement}
 use Rattle.field.proofs.Refusal.number.Tie as tie
+use borrow.Author.Needs.{needs}
 
 enum-told : tie.Need-enum-told
 enum-told c = search needs

@@ -1,6 +1,6 @@
-use borrow.Author.Needs.{needs}
 use Rattle.field.proofs.claims.claim_at.Statement.{statement}
 use Rattle.field.proofs.claims.claim_at.Tie as tie
+use borrow.Author.Needs.{needs}
 
 content-at-requires : tie.Need-content-at-requires
 content-at-requires c κs = search needs

@@ -1,8 +1,8 @@
-use Rattle.field.specs.Claims.{refusalIn, claim-fault}
 use mathlib.Core.Path.{sym, ap, _∙_}
-use borrow.Author.Needs.{needs}
+use Rattle.field.specs.Claims.{refusalIn, claim-fault}
 use Rattle.field.proofs.claims.claim_fault.Statement.{statement}
 use Rattle.field.proofs.claims.claim_fault.Tie as tie
+use borrow.Author.Needs.{needs}
 
 claim-in-requires : tie.Need-claim-in-requires
 claim-in-requires c κs = search needs

@@ -1,14 +1,14 @@
+use Prim.Native.Nat.{ℕ}
+use mathlib.Core.List.{List}
+use mathlib.Core.Path.{_≡_, sym, ap, _∙_}
+use denote.Ref.{now}
+use Rattle.curve.specs.Kinds.{namedAs, namedBy}
 use Rattle.field.specs.Claims.{orFar, claim-unknown, claim-far, claim-named}
 use Rattle.field.specs.Refusals.{claimField}
 use Rattle.field.specs.Layout.{kindIn, xIn}
-use Rattle.curve.specs.Kinds.{namedAs, namedBy}
-use denote.Ref.{now}
-use mathlib.Core.List.{List}
-use mathlib.Core.Path.{_≡_, sym, ap, _∙_}
-use Prim.Native.Nat.{ℕ}
-use borrow.Author.Needs.{needs}
 use Rattle.field.proofs.claims.claim_in.Statement.{statement}
 use Rattle.field.proofs.claims.claim_in.Tie as tie
+use borrow.Author.Needs.{needs}
 
 number1-requires : tie.Need-number1-requires
 number1-requires c κs = search needs

@@ -1,6 +1,6 @@
-use borrow.Author.Needs.{needs}
 use Rattle.field.proofs.claims.stated.Statement.{statement}
 use Rattle.field.proofs.claims.stated.Tie as tie
+use borrow.Author.Needs.{needs}
 
 enum-known-fault : tie.Need-enum-known-fault
 enum-known-fault c = search needs

@@ -11,9 +11,9 @@ use borrow.Author.Tests.{lt-ltb, le-ltb, eq-eqb, ne-eqb, ltb-true, ltb-false, no
 use Rattle.minplus.specs.Curve.{maxListed, maxUnits}
 use Rattle.field.specs.Layout.{curveHead, periodIn, incrementIn, countIn}
 use Rattle.field.specs.Refusals.{valuesFit, valuesRise, curveFault}
-use borrow.Author.Needs.{needs}
 use Rattle.field.proofs.curves.curve_fault.Statement.{statement}
 use Rattle.field.proofs.curves.curve_fault.Tie as tie
+use borrow.Author.Needs.{needs}
 
 abbrev content : tie.Else1 → List ℕ
 content c = now (c .before .before .args .content)

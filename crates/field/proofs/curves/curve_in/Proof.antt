@@ -5,12 +5,12 @@ use native.Mathlib.Omega.{arith}
 use lib.ListN.{length, take}
 use lib.Seq.{length-take-le}
 use denote.Ref.{now}
-use borrow.Author.Needs.{needs}
 use Rattle.curve.specs.Filled.{listOf, filled, filled-none, filled-more, filled-length, filled-taken}
 use Rattle.curve.specs.Held.{padded, padded-listed}
 use Rattle.field.specs.Layout.{valueIn, countIn}
 use Rattle.field.proofs.curves.curve_in.Statement.{statement}
 use Rattle.field.proofs.curves.curve_in.Tie as tie
+use borrow.Author.Needs.{needs}
 
 abbrev Inv-loop : tie.InvT-loop
 Inv-loop content rank period increment count values₀ n₀ values n =

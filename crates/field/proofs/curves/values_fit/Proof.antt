@@ -4,9 +4,8 @@ use mathlib.Core.Bool.{Bool, true}
 use mathlib.Core.List.{List}
 use native.Mathlib.Omega.{arith}
 use lib.Dec.{leb}
-use borrow.Author.Tests.{le-leb, lt-leb}
-use borrow.Author.Needs.{needs}
 use denote.Ref.{now}
+use borrow.Author.Tests.{le-leb, lt-leb}
 use Rattle.minplus.specs.Curve.{maxUnits}
 use Rattle.minplus.specs.Search.{allBelow}
 use Rattle.field.specs.Layout.{valueIn}
@@ -14,6 +13,7 @@ use Rattle.field.specs.Refusals.{valuesFit}
 use Rattle.field.proofs.Laws.{all-more, all-not}
 use Rattle.field.proofs.curves.values_fit.Statement.{statement}
 use Rattle.field.proofs.curves.values_fit.Tie as tie
+use borrow.Author.Needs.{needs}
 
 abbrev fits : List ℕ → ℕ → Bool
 fits content n = leb (valueIn content n) maxUnits

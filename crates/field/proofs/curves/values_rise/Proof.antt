@@ -5,15 +5,15 @@ use mathlib.Core.List.{List}
 use native.Mathlib.Omega.{arith}
 use native.Mathlib.Numerals.{add-one}
 use lib.Dec.{leb}
-use borrow.Author.Tests.{le-leb, lt-leb}
-use borrow.Author.Needs.{needs}
 use denote.Ref.{now}
+use borrow.Author.Tests.{le-leb, lt-leb}
 use Rattle.minplus.specs.Search.{allBelow}
 use Rattle.field.specs.Layout.{valueIn}
 use Rattle.field.specs.Refusals.{valuesRise}
 use Rattle.field.proofs.Laws.{all-more, all-not}
 use Rattle.field.proofs.curves.values_rise.Statement.{statement}
 use Rattle.field.proofs.curves.values_rise.Tie as tie
+use borrow.Author.Needs.{needs}
 
 abbrev rises : List ℕ → ℕ → Bool
 rises content n = leb (valueIn content n) (valueIn content (suc n))

@@ -1,9 +1,9 @@
 use mathlib.Core.Path.{sym}
 use native.Mathlib.Omega.{arith}
 use Rattle.field.specs.Numbers.{number-byte, number-torn}
-use borrow.Author.Needs.{needs}
 use Rattle.field.proofs.numbers.number1.Statement.{statement}
 use Rattle.field.proofs.numbers.number1.Tie as tie
+use borrow.Author.Needs.{needs}
 
 shared-slice-read-result : tie.Need-shared-slice-read-result
 shared-slice-read-result c = search needs

@@ -1,9 +1,9 @@
-use Rattle.field.specs.Numbers.{number-split, number-torn}
-use native.Mathlib.Omega.{arith}
 use mathlib.Core.Path.{sym}
-use borrow.Author.Needs.{needs}
+use native.Mathlib.Omega.{arith}
+use Rattle.field.specs.Numbers.{number-split, number-torn}
 use Rattle.field.proofs.numbers.number4.Statement.{statement}
 use Rattle.field.proofs.numbers.number4.Tie as tie
+use borrow.Author.Needs.{needs}
 
 returns : tie.Need-returns
 returns c = sym (number-torn 4 _ _ (omega arith))

@@ -1,10 +1,10 @@
-use native.Mathlib.Omega.{arith}
-use Rattle.field.specs.Steps.{after, full}
-use borrow.Author.Tests.{leb-false}
 use Prim.Native.Nat.{_<_}
-use borrow.Author.Needs.{needs}
+use native.Mathlib.Omega.{arith}
+use borrow.Author.Tests.{leb-false}
+use Rattle.field.specs.Steps.{after, full}
 use Rattle.field.proofs.steps.after.Statement.{statement}
 use Rattle.field.proofs.steps.after.Tie as tie
+use borrow.Author.Needs.{needs}
 
 enum-told : tie.Need-enum-told
 enum-told c = search needs

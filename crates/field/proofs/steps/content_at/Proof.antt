@@ -1,6 +1,6 @@
-use borrow.Author.Needs.{needs}
 use Rattle.field.proofs.steps.content_at.Statement.{statement}
 use Rattle.field.proofs.steps.content_at.Tie as tie
+use borrow.Author.Needs.{needs}
 
 rest-of-requires : tie.Need-rest-of-requires
 rest-of-requires c κs = search needs

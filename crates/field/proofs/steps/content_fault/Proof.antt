@@ -1,7 +1,7 @@
 use Rattle.field.specs.Refusals.{contentFault}
-use borrow.Author.Needs.{needs}
 use Rattle.field.proofs.steps.content_fault.Statement.{statement}
 use Rattle.field.proofs.steps.content_fault.Tie as tie
+use borrow.Author.Needs.{needs}
 
 enum-told : tie.Need-enum-told
 enum-told c = search needs

@@ -1,13 +1,13 @@
-use Rattle.field.specs.Layout.{lengthOf}
-use lib.ListN.{length}
 use Prim.Native.Nat.{ℕ, _≤_}
 use mathlib.Core.List.{List}
-use lib.Seq.{take-all, length-take-le}
-use native.Mathlib.Omega.{arith}
 use mathlib.Core.Path.{sym, subst, _∙_}
-use borrow.Author.Needs.{needs}
+use native.Mathlib.Omega.{arith}
+use lib.ListN.{length}
+use lib.Seq.{take-all, length-take-le}
+use Rattle.field.specs.Layout.{lengthOf}
 use Rattle.field.proofs.steps.content_of.Statement.{statement}
 use Rattle.field.proofs.steps.content_of.Tie as tie
+use borrow.Author.Needs.{needs}
 
 number2-requires : tie.Need-number2-requires
 number2-requires c κs = search needs

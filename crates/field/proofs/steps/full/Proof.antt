@@ -1,7 +1,7 @@
 use Rattle.field.specs.Steps.{full}
-use borrow.Author.Needs.{needs}
 use Rattle.field.proofs.steps.full.Statement.{statement}
 use Rattle.field.proofs.steps.full.Tie as tie
+use borrow.Author.Needs.{needs}
 
 enum-told : tie.Need-enum-told
 enum-told c = search needs

@@ -1,8 +1,8 @@
-use Rattle.field.specs.Steps.{inOrder}
 use borrow.Author.Tests.{eq-eqb, ne-eqb}
-use borrow.Author.Needs.{needs}
+use Rattle.field.specs.Steps.{inOrder}
 use Rattle.field.proofs.steps.in_order.Statement.{statement}
 use Rattle.field.proofs.steps.in_order.Tie as tie
+use borrow.Author.Needs.{needs}
 
 enum-told : tie.Need-enum-told
 enum-told c = search needs

@@ -1,12 +1,11 @@
-use lib.ListN.{length, take, drop, length-drop, drop-of-length-le}
-use lib.ListN.{length, take, length-drop, drop-of-length-le}
-use lib.Seq.{take-all, drop-length, take-nil}
 use Prim.Native.Nat.{_-_}
-use native.Mathlib.Omega.{arith}
 use mathlib.Core.Path.{sym, ap, _∙_}
-use borrow.Author.Needs.{needs}
+use native.Mathlib.Omega.{arith}
+use lib.ListN.{length, take, drop, length-drop, drop-of-length-le}
+use lib.Seq.{take-all, drop-length, take-nil}
 use Rattle.field.proofs.steps.rest_of.Statement.{statement}
 use Rattle.field.proofs.steps.rest_of.Tie as tie
+use borrow.Author.Needs.{needs}
 
 sub-result : tie.Need-sub-result
 sub-result c = search needs

@@ -1,3 +1,10 @@
+use Prim.Native.Nat.{ℕ, _+_, _≤_}
+use mathlib.Core.List.{List}
+use mathlib.Core.Path.{_≡_, sym, ap, ap₂, _∙_}
+use native.Mathlib.Omega.{arith}
+use lib.ListN.{length, drop, length-drop}
+use denote.Ref.{now}
+use borrow.Author.Tests.{lt-ltb, le-ltb}
 use Rattle.field.specs.declared.Field.the-variants.{Taken}
 use Rattle.field.specs.declared.Tagged.{Tagged}
 use Rattle.field.specs.Steps.{fieldSize, taggedFault, after, answer, tagged, stepOn, stepAt, Takes, takes}
@@ -5,16 +12,9 @@ use Rattle.field.specs.Layout.{tagOf, lengthOf, contentOf, versionIn}
 use Rattle.field.specs.declared.Checked.{Checked}
 use Rattle.field.specs.declared.State.{State}
 use Rattle.field.specs.declared.Tag.{Tag}
-use denote.Ref.{now}
-use lib.ListN.{length, drop, length-drop}
-use mathlib.Core.List.{List}
-use Prim.Native.Nat.{ℕ, _+_, _≤_}
-use borrow.Author.Tests.{lt-ltb, le-ltb}
-use native.Mathlib.Omega.{arith}
-use mathlib.Core.Path.{_≡_, sym, ap, ap₂, _∙_}
-use borrow.Author.Needs.{needs}
 use Rattle.field.proofs.steps.step.Statement.{statement}
 use Rattle.field.proofs.steps.step.Tie as tie
+use borrow.Author.Needs.{needs}
 
 rest-of-requires : tie.Need-rest-of-requires
 rest-of-requires c κs = search needs

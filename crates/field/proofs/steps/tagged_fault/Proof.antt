@@ -1,12 +1,11 @@
-use Rattle.field.specs.Steps.{fieldSize}
 use native.Mathlib.Omega.{arith}
-use denote.Ref.{now}
 use lib.ListN.{length}
-use Rattle.field.specs.Steps.{taggedFault}
+use denote.Ref.{now}
 use borrow.Author.Tests.{lt-ltb, le-ltb}
-use borrow.Author.Needs.{needs}
+use Rattle.field.specs.Steps.{fieldSize, taggedFault}
 use Rattle.field.proofs.steps.tagged_fault.Statement.{statement}
 use Rattle.field.proofs.steps.tagged_fault.Tie as tie
+use borrow.Author.Needs.{needs}
 
 in-order-requires : tie.Need-in-order-requires
 in-order-requires c κs = search needs

@@ -1,12 +1,12 @@
-use Rattle.field.specs.Layout.{versionIn}
 use native.Mathlib.Omega.{arith}
-use denote.Ref.{now}
 use lib.ListN.{length}
-use Rattle.field.specs.Refusals.{versionFault}
+use denote.Ref.{now}
 use borrow.Author.Tests.{eq-eqb, ne-eqb}
-use borrow.Author.Needs.{needs}
+use Rattle.field.specs.Layout.{versionIn}
+use Rattle.field.specs.Refusals.{versionFault}
 use Rattle.field.proofs.steps.version_fault.Statement.{statement}
 use Rattle.field.proofs.steps.version_fault.Tie as tie
+use borrow.Author.Needs.{needs}
 
 returns : tie.Need-returns
 unfolding versionFault
