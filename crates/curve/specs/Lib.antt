@@ -3,6 +3,4 @@ pub mod Filled
 pub mod Held
 pub mod Table
 pub mod Claimed
-pub mod Told
 pub mod Kinds
-pub mod Reach

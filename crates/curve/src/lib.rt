@@ -1,12 +1,8 @@
-// Curves and claims as values, and what everything above asks of them: a value at a tick, a table of values, the horizon.
+// Curves and claims as values, and what everything above asks of them: a value at a tick, a table of values, which of two is slower.
 ghost use mathlib.Core.Path.{_≡_};
 ghost use Rattle.curve.specs.Held.{padded};
 ghost use Rattle.curve.specs.Kinds.{namedBy, limitedBy};
 
-mod crossing;
-mod divisor;
-mod form;
-pub mod horizon;
 pub mod rates;
 pub mod values;
 

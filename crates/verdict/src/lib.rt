@@ -8,9 +8,9 @@ use curve::Claim;
 use curve::Curve;
 use curve::Ticks;
 use curve::Units;
-use curve::horizon::Horizon;
-use curve::horizon::horizon_of;
 use curve::rates::slower;
+use horizon::Horizon;
+use horizon::horizon_of;
 
 mod search;
 

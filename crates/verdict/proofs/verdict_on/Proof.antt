@@ -7,7 +7,7 @@ use Rattle.minplus.specs.Claim.{Claim, wellFormedClaim, well-formed-claim}
 use Rattle.minplus.specs.Horizon.{horizon}
 use Rattle.curve.specs.Claimed.{claimOf}
 use Rattle.verdict.specs.Given.{judgement-none, judgement-some, verdict-far}
-use Rattle.curve.specs.Reach.{at-horizon, ill-formed}
+use Rattle.horizon.specs.Reach.{at-horizon, ill-formed}
 use borrow.Author.Needs.{needs}
 use Rattle.verdict.proofs.verdict_on.Statement.{statement}
 use Rattle.verdict.proofs.verdict_on.Tie as tie

@@ -1,0 +1,58 @@
+use mathlib.Core.Path.{sym, ap₂, _∙_}
+use native.Mathlib.Omega.{arith}
+use Rattle.minplus.specs.Horizon.{crossing, highest, lowest, _increasedBy_}
+use Rattle.curve.specs.Held.{curveOf}
+use Rattle.horizon.specs.Reach.{convolution-none, convolution-some}
+use borrow.Author.Needs.{needs}
+use Rattle.horizon.proofs.crossing.convolution_n.Statement.{statement}
+use Rattle.horizon.proofs.crossing.convolution_n.Tie as tie
+
+returns : tie.Need-returns
+returns c =
+    let a = c .before .before .args in
+    (sym (convolution-none (curveOf (a .f)) (curveOf (a .g)) (c .if1 .taken)), omega arith)
+
+turning-requires : tie.Need-turning-requires
+turning-requires c κs = search needs
+
+begun-requires : tie.Need-begun-requires
+begun-requires c κs = search needs
+
+increased-requires : tie.Need-increased-requires
+increased-requires c κs = search needs
+
+turning-requires-2 : tie.Need-turning-requires-2
+turning-requires-2 c κs = search needs
+
+earliest-requires : tie.Need-earliest-requires
+earliest-requires c κs = search needs
+
+increased-requires-2 : tie.Need-increased-requires-2
+increased-requires-2 c κs = search needs
+
+crossing-requires : tie.Need-crossing-requires
+crossing-requires c κs = search needs
+
+returns-2 : tie.Need-returns-2
+unfolding highest lowest
+returns-2 c =
+    let a = c .before .before .before .before .before .before .before .before .before .args in
+    let A = c .before .before .before .before .increased .ensures .0 ∙ ap₂ _increasedBy_ (c .before .before .before .before .before .before .turning .ensures .0) (c .before .before .before .before .before .begun .ensures .0) in
+    let B = c .before .increased2 .ensures .0 ∙ ap₂ _increasedBy_ (c .before .before .before .turning2 .ensures .0) (c .before .before .earliest .ensures .0) in (
+      c .crossing .ensures .0 ∙ ap₂ (crossing (curveOf (a .f)) (curveOf (a .g))) A B ∙ sym (convolution-some (curveOf (a .f)) (curveOf (a .g)) (omega arith)),
+      c .crossing .ensures .1,
+    )
+
+pub convolution-n-spec : {M : Type 1} → statement M
+convolution-n-spec =
+    tie.close
+    (tie.spec
+    returns
+    turning-requires
+    begun-requires
+    increased-requires
+    turning-requires-2
+    earliest-requires
+    increased-requires-2
+    crossing-requires
+    returns-2)

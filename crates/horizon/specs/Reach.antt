@@ -1,0 +1,219 @@
+-- What the steps of the horizon's code compute, in the words of the crate minplus.
+--
+--     choice greatest           the greater or the lesser of two numbers
+--     signedOf                  a struct of two numbers as a signed number
+--     raisedAt, begunAt         the numbers that an extreme is taken of, and what A is increased by
+--     Extent, Small, Ready, Crossable      what is known where it is computed, so that products fit
+--     evenRank, crossingN       the rank with equal rates, and N where f is the slower curve
+--     rank-is                   R is the greater of the two
+--     horizonAnswer             the answer: no horizon for a claim that is not well formed (horizon-none, ill-formed), else its
+--                               horizon (horizon-at, at-horizon)
+use Prim.Native.Nat.{ℕ, suc, _+_, _-_, _*_, _≤_, _<_, min, max}
+use mathlib.Core.Path.{_≡_, refl, sym, ap, _∙_}
+use mathlib.Core.Bool.{Bool, true, false}
+use mathlib.Core.List.{List}
+use native.Mathlib.Omega.{arith}
+use native.Mathlib.Nat.{max-comm, mul-le-mul, le-of-lt}
+use lib.ListN.{length, getD}
+use lib.Seq.{getD-take}
+use Rattle.minplus.specs.Search.{best-same}
+use Rattle.minplus.specs.Curve as C
+use Rattle.minplus.specs.Divisor.{lcm-comm}
+use Rattle.minplus.specs.Claim as M
+use Rattle.minplus.specs.Horizon as H
+use Rattle.horizon.specs.declared.crossing.Signed.{Signed}
+use Rattle.horizon.specs.declared.Horizon.{Horizon}
+use Rattle.horizon.specs.declared.Horizon.the-variants.{At, IllFormed}
+use Rattle.curve.specs.Held.{heldOf}
+
+abbrev pub choice : Bool → ℕ → ℕ → ℕ
+choice true = max
+choice false = min
+
+abbrev pub signedOf : Signed → H.Signed
+signedOf s = record { plus = s .plus; minus = s .minus }
+
+-- the numbers that an extreme is taken of
+abbrev pub raisedAt : List ℕ → ℕ → ℕ → ℕ → ℕ → ℕ → ℕ
+raisedAt l d c start count i = d * getD l (start + i) 0 + c * (count - i)
+
+-- "d*g(T') - c*T'"
+abbrev pub begunAt : C.Curve → C.Curve → H.Signed
+begunAt f g = record { plus = f .period * C.value g (g .rank); minus = f .increment * g .rank }
+
+-- what an extreme is taken over: some of the listed values, with factors that are small enough
+pub record Extent (l : List ℕ) (d c start count : ℕ) : Type 0 where
+  pub some : 1 ≤ count
+  pub inside : start + count ≤ length l
+  pub room : start + count ≤ C.maxListed
+  pub factor-fits : d ≤ C.maxListed
+  pub slope-fits : c ≤ C.maxUnits
+
+pub record Small (bound : ℕ) (s : Signed) : Type 0 where
+  pub plus-fits : s .plus ≤ bound
+  pub minus-fits : s .minus ≤ bound
+
+-- 2^41: no extreme is above it; two extremes and a value's multiple are not above twice that
+abbrev pub large : ℕ
+large = 2_199_023_255_552
+
+-- 2^52: no N is above it
+abbrev pub far : ℕ
+far = 4_503_599_627_370_496
+
+-- f is the slower of two well-formed curves
+pub record Ready (f g : C.Curve) : Type 0 where
+  pub left : C.WellFormed f
+  pub right : C.WellFormed g
+  pub slower : f .increment * g .period < g .increment * f .period
+
+-- and A and B are within bounds
+pub record Crossable (f g : C.Curve) (a b : Signed) : Type 0 where
+  pub ready : Ready f g
+  pub a-small : Small (large + large) a
+  pub b-small : Small (large + large) b
+
+unfoldable pub evenRank : M.Operation → C.Curve → C.Curve → ℕ
+unfolding H.commonPeriod
+evenRank M.sum f g = max (f .rank) (g .rank)
+evenRank M.minimum f g = max (f .rank) (g .rank)
+evenRank M.convolution f g = f .rank + g .rank + H.commonPeriod f g
+
+unfoldable pub crossingN : M.Operation → C.Curve → C.Curve → ℕ
+unfolding H.minimumN H.convolutionN
+crossingN M.sum f g = 0
+crossingN M.minimum f g = H.minimumN f g
+crossingN M.convolution f g = H.convolutionN f g
+
+unfoldable pub horizonAnswer : M.Claim → Horizon
+unfolding M.wellFormedClaim H.horizon
+horizonAnswer c = elim (M.wellFormedClaim c) [ true ↦ At (H.horizon c) | false ↦ IllFormed ]
+
+-- ---- laws
+
+pub raised-fits : {l : List ℕ} {d c start count : ℕ} (i : ℕ) → Extent l d c start count → getD l (start + i) 0 < 4_294_967_296
+    → raisedAt l d c start count i ≤ large
+raised-fits {l} {d} {c} {start} {count} i over fits =
+    let value : getD l (start + i) 0 ≤ 4_294_967_296 = omega arith in
+    let ticks : count - i ≤ C.maxListed = omega (arith, over .room) in
+    omega (arith, mul-le-mul (over .factor-fits) value, mul-le-mul (over .slope-fits) ticks)
+
+pub choice-fits : (greatest : Bool) {a b bound : ℕ} → a ≤ bound → b ≤ bound → choice greatest a b ≤ bound
+choice-fits true ha hb = omega arith
+choice-fits false ha hb = omega arith
+
+-- up to the rank and its first period a value is the listed one
+pub extreme-held : (choose : ℕ → ℕ → ℕ) (rank period increment : ℕ) (l : List ℕ) (d c start count : ℕ) → 1 ≤ period → 1 ≤ count
+    → start + count ≤ rank + period
+    → H.extremeOf choose (C.value (heldOf rank period increment l)) d c start count ≡ H.extremeOf choose (λ t. getD l t 0) d c start count
+unfolding H.extremeOf
+extreme-held choose rank period increment l d c start count positive some inside =
+    ap (λ (p : ℕ). record { plus = p; minus = c * (start + count) })
+    (best-same choose _ _ (count - 1) (λ i le.
+    ap (λ (v : ℕ). d * v + c * (count - i))
+    (C.value-listed (heldOf rank period increment l) positive (start + i) (omega arith) ∙ getD-take (rank + period) l (start + i) 0 (omega arith))))
+
+pub begun-fits : {f g : C.Curve} → Ready f g → (begunAt f g .plus ≤ large) × (begunAt f g .minus ≤ large)
+begun-fits {f} {g} at =
+    let value-fits : C.value g (g .rank) ≤ 256_000_000 = omega (arith, C.value-at-most g (at .right) (g .rank), C.rank-fits (at .right)) in (
+      omega (arith, mul-le-mul (C.period-fits (at .left)) value-fits),
+      omega (arith, mul-le-mul (at .left .increment-fits) (le-of-lt (C.rank-fits (at .right)))),
+    )
+
+-- what is computed of A and B stays far below 2^64
+module _ {f g : C.Curve} {a b : Signed} (at : Crossable f g a b) where
+  d-fits : f .period ≤ C.maxListed
+  d-fits = C.period-fits (at .ready .left)
+
+  e-fits : g .period ≤ C.maxListed
+  e-fits = C.period-fits (at .ready .right)
+
+  pub above-fits : g .period * a .plus + f .period * b .minus ≤ far - large
+  above-fits = omega (arith, mul-le-mul e-fits (at .a-small .plus-fits), mul-le-mul d-fits (at .b-small .minus-fits))
+
+  pub below-fits : f .period * b .plus + g .period * a .minus ≤ far - large
+  below-fits = omega (arith, mul-le-mul d-fits (at .b-small .plus-fits), mul-le-mul e-fits (at .a-small .minus-fits))
+
+  pub faster-fits : g .increment * f .period + f .increment * g .period ≤ large
+  faster-fits = omega (arith, mul-le-mul (at .ready .right .increment-fits) d-fits, mul-le-mul (at .ready .left .increment-fits) e-fits)
+
+-- the three ways in which two rates can stand
+module _ (f g : C.Curve) (equal : ℕ) (N : C.Curve → C.Curve → ℕ) where
+  pub rates-left : H.slower f g ≡ true → H.byRates f g equal N ≡ N f g
+  unfolding H.byRates
+  rates-left e = rw (e, H.byRates)
+
+  pub rates-right : H.slower f g ≡ false → H.slower g f ≡ true → H.byRates f g equal N ≡ N g f
+  unfolding H.byRates
+  rates-right e d = rw (e, d, H.byRates)
+
+  pub rates-even : H.slower f g ≡ false → H.slower g f ≡ false → H.byRates f g equal N ≡ equal
+  unfolding H.byRates
+  rates-even e d = rw (e, d, H.byRates)
+
+even-comm : (op : M.Operation) (f g : C.Curve) → evenRank op f g ≡ evenRank op g f
+unfolding evenRank H.commonPeriod
+even-comm M.sum f g = max-comm (f .rank) (g .rank)
+even-comm M.minimum f g = max-comm (f .rank) (g .rank)
+even-comm M.convolution f g = omega (arith, lcm-comm (f .period) (g .period))
+
+-- the ways in which two rates can stand share the rank E, where E is the same for both orders
+rates-max : (f g : C.Curve) (E N : C.Curve → C.Curve → ℕ) → E f g ≡ E g f
+    → H.byRates f g (E f g) (λ a b. max (E a b) (N a b)) ≡ max (E f g) (H.byRates f g 0 N)
+unfolding H.byRates
+rates-max f g E N comm = go (H.slower f g) (H.slower g f)
+  where
+    go : (t u : Bool)
+        → elim t as (λ _. ℕ) [ true ↦ max (E f g) (N f g) | false ↦ elim u as (λ _. ℕ) [ true ↦ max (E g f) (N g f) | false ↦ E f g ] ]
+        ≡ max (E f g) (elim t as (λ _. ℕ) [ true ↦ N f g | false ↦ elim u as (λ _. ℕ) [ true ↦ N g f | false ↦ 0 ] ])
+    go true u = refl
+    go false true = ap (λ (e : ℕ). max e (N g f)) (sym comm)
+    go false false = omega arith
+
+rates-none : (f g : C.Curve) → H.byRates f g 0 (crossingN M.sum) ≡ 0
+unfolding H.byRates crossingN
+rates-none f g = go (H.slower f g) (H.slower g f)
+  where
+    go : (t u : Bool) → _≡_ {A = ℕ} (elim t as (λ _. ℕ) [ true ↦ 0 | false ↦ elim u as (λ _. ℕ) [ true ↦ 0 | false ↦ 0 ] ]) 0
+    go true u = refl
+    go false true = refl
+    go false false = refl
+
+pub rank-is : (op : M.Operation) (f g : C.Curve) → H.rankOf op f g ≡ max (evenRank op f g) (H.byRates f g 0 (crossingN op))
+unfolding H.rankOf evenRank crossingN
+rank-is M.sum f g = omega (arith, rates-none f g)
+rank-is M.minimum f g = rates-max f g (evenRank M.minimum) H.minimumN (even-comm M.minimum f g)
+rank-is M.convolution f g = rates-max f g (evenRank M.convolution) H.convolutionN (even-comm M.convolution f g)
+
+pub convolution-none : (f g : C.Curve) → f .rank ≡ 0 → H.convolutionN f g ≡ 0
+unfolding H.convolutionN
+convolution-none f g e = rw e
+
+pub convolution-some : (f g : C.Curve) → 1 ≤ f .rank
+    → H.convolutionN f g ≡ H.crossing f g (H._increasedBy_ (H.highest f) (begunAt f g)) (H._increasedBy_ (H.lowest g) (H.earliest f g))
+unfolding H.convolutionN
+convolution-some f g some = let e : f .rank ≡ suc (f .rank - 1) = omega arith in rw e
+
+-- the answer from what holds, and what holds from the answer
+module _ (c : M.Claim) where
+  pub horizon-none : M.wellFormedClaim c ≡ false → horizonAnswer c ≡ IllFormed
+  unfolding horizonAnswer
+  horizon-none e = rw (e, horizonAnswer)
+
+  pub horizon-at : M.wellFormedClaim c ≡ true → horizonAnswer c ≡ At (H.horizon c)
+  unfolding horizonAnswer
+  horizon-at e = rw (e, horizonAnswer)
+
+  pub ill-formed : horizonAnswer c ≡ IllFormed → M.wellFormedClaim c ≡ false
+  ill-formed e = go (M.wellFormedClaim c) refl
+    where
+      go : (b : Bool) → M.wellFormedClaim c ≡ b → b ≡ false
+      go false is = refl
+      go true is = let z : _≡_ {A = ℕ} 0 1 = cc (horizon-at is) in absurd (omega arith)
+
+  pub at-horizon : (n : ℕ) → horizonAnswer c ≡ At n → (M.wellFormedClaim c ≡ true) × (H.horizon c ≡ n)
+  at-horizon n e = go (M.wellFormedClaim c) refl
+    where
+      go : (b : Bool) → M.wellFormedClaim c ≡ b → (b ≡ true) × (H.horizon c ≡ n)
+      go true is = (refl, cc (horizon-at is))
+      go false is = let z : _≡_ {A = ℕ} 0 1 = cc (horizon-none is) in absurd (omega arith)
