@@ -1,6 +1,6 @@
 // A curve's value, asked of a book by curve number and tick.
 ghost use mathlib.Core.Path.{_≡_};
-ghost use Rattle.book.specs.Values.{askedOf, valueAsked, told};
+ghost use Rattle.book.specs.Values.{valueAsked, told};
 use crate::Asked;
 use crate::CurveValue;
 use crate::Outcome;

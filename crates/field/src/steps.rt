@@ -1,8 +1,7 @@
 // One field: tag (1 byte), length (2), content.
 ghost use mathlib.Core.Path.{_≡_};
-ghost use Prim.Native.Nat.{_+_, _≤_};
 ghost use mathlib.Core.Bool.{false};
-ghost use lib.ListN.{length, drop};
+ghost use lib.ListN.{drop};
 ghost use Rattle.field.specs.Layout.{tagBy, contentOf, contentAt};
 ghost use Rattle.field.specs.Refusals.{versionFault, endFault, contentFault};
 ghost use Rattle.field.specs.Steps.{inOrder, full, taggedFault, after, stepAt};
