@@ -1,16 +1,16 @@
 -- What the code holds of a book that it reads.
 --
---     inArray          a list at the front of an array
+--     placesOf, bookOf     the places in arrays, and the book with them
 --     readingOf        the answer as the code's struct: a refused book holds nothing; passedUp: from a field's answer
 --     noted            the places with one more field
 use Prim.Native.Nat.{ℕ, zero, suc, _+_, _-_, _≤_, _<_}
 use mathlib.Core.Path.{_≡_, refl, sym, ap, ap₂, _∙_}
 use mathlib.Core.Bool.{false}
-use mathlib.Core.List.{List, [], _∷_, _++_, append-assoc}
+use mathlib.Core.List.{List, [], _∷_, _++_}
 use native.Mathlib.Omega.{arith}
-use lib.ListN.{length, getD, set, replicate, length-append, List·getD-append}
-use lib.Seq.{set-at}
+use lib.ListN.{length, set, length-append}
 use borrow.Author.Tests.{le-ltb, leb-false}
+use Rattle.curve.specs.Filled.{inArray, array-more}
 use Rattle.field.specs.declared.Refusal.{Refusal}
 use Rattle.field.specs.declared.Field.{Field}
 use Rattle.field.specs.declared.Field.the-variants as field
@@ -25,9 +25,6 @@ use Rattle.book.specs.declared.Outcome.{Outcome}
 use Rattle.book.specs.declared.Outcome.the-variants as outcome
 use Rattle.book.specs.declared.Reading.{Reading}
 use Rattle.book.specs.Reading.{Contents, Read, sound, refused, maxBytes, start, readFrom, readBook}
-
-unfoldable pub inArray : ℕ → List ℕ → List ℕ
-inArray room l = l ++ replicate {A = ℕ} (room - length l) 0
 
 abbrev pub placesOf : List ℕ → List ℕ → Places
 placesOf curves claims = record { curves = inArray maxCurves curves; claims = inArray maxClaims claims }
@@ -64,21 +61,9 @@ pub record Notable (t : Tag) (st : State) : Type 0 where
 
 -- ---- laws
 
-array-more : (room : ℕ) (l : List ℕ) (x : ℕ) → length l < room → set (inArray room l) (length l) x ≡ inArray room (l ++ (x ∷ []))
-unfolding inArray
-array-more room l x lt =
-    let rest : ℕ = room - suc (length l) in
-    let e : room - length l ≡ suc rest = omega arith in
-    let e′ : room - length (l ++ (x ∷ [])) ≡ rest = simp length-append (omega arith) in
-    rw (e, e′) (set-at l 0 (replicate {A = ℕ} rest 0) x (length l) refl ∙ sym (append-assoc l (x ∷ []) (replicate {A = ℕ} rest 0)))
-
 pub held-book : (v : ℕ) (curves claims : List ℕ) (n m : ℕ) (places : Places) → n ≡ length curves → m ≡ length claims → places ≡ placesOf curves claims
     → _≡_ {A = Book} (record { version = v; curves = n; claims = m; places = places }) (bookOf (record { version = v; curves = curves; claims = claims }))
 held-book v curves claims n m places e e′ e″ = rw (e, e′, e″)
-
-pub array-at : (room : ℕ) (l : List ℕ) (k : ℕ) → k < length l → getD (inArray room l) k 0 ≡ getD l k 0
-unfolding inArray
-array-at room l k lt = List·getD-append l (replicate {A = ℕ} (room - length l) 0) 0 k lt
 
 abbrev refusalIn : Outcome → Refusal → Refusal
 refusalIn outcome.Sound other = other
@@ -186,7 +171,7 @@ module _ {s : List ℕ} {st : State} {places : Places} (reads : Reads s st place
       (ap (λ (x : State). x .curves) (taken .then) ∙ rw (reads .curve-count, length-append (reads .curves) (st .place ∷ [])))
       (ap (λ (x : State). x .claims) (taken .then) ∙ reads .claim-count)
       (λ k. rw (e, readFrom))
-      (rw (reads .held, reads .curve-count, array-more maxCurves (reads .curves) (st .place) room))
+      (rw (reads .held, reads .curve-count, array-more maxCurves (reads .curves) (st .place) (length (reads .curves)) refl room))
   reads-more tag.Claim next e other =
       let taken = takes s st tag.Claim next e in
       let room : length (reads .claims) < maxClaims = rw (← reads .claim-count) (leb-false _ _ (taken .room)) in
@@ -194,5 +179,5 @@ module _ {s : List ℕ} {st : State} {places : Places} (reads : Reads s st place
       (ap (λ (x : State). x .curves) (taken .then) ∙ reads .curve-count)
       (ap (λ (x : State). x .claims) (taken .then) ∙ rw (reads .claim-count, length-append (reads .claims) (st .place ∷ [])))
       (λ k. rw (e, readFrom))
-      (rw (reads .held, reads .claim-count, array-more maxClaims (reads .claims) (st .place) room))
+      (rw (reads .held, reads .claim-count, array-more maxClaims (reads .claims) (st .place) (length (reads .claims)) refl room))
   reads-more tag.End next e other = absurd (other refl)

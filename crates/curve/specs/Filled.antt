@@ -1,7 +1,8 @@
 -- An array that is filled from the front, one store a turn, and is 0 from there on.
 --
+--     inArray room l     an array of that room with l at its front: array-more, after one more store; array-at, what is stored
 --     listOf F k         F(0) to F(k-1)
---     filled F room k    the array of that room after k stores
+--     filled F room k    that list in an array: the array after k stores
 --     filled-none, filled-more     before the first store, and after one more
 --     filled-length, filled-at     how long it is, and what is stored
 --     filled-taken       the stored part of it; filled-same: it depends on what is stored alone
@@ -16,13 +17,28 @@ use native.Mathlib.Numerals.{add-one}
 use lib.ListN.{length, getD, set, take, replicate, length-append, length-replicate, List·getD-append}
 use lib.Seq.{set-at, getD-at, take-at}
 
+unfoldable pub inArray : ℕ → List ℕ → List ℕ
+inArray room l = l ++ replicate {A = ℕ} (room - length l) 0
+
 unfoldable pub listOf : (ℕ → ℕ) → ℕ → List ℕ
 listOf F zero = []
 listOf F (suc k) = listOf F k ++ (F k ∷ [])
 
 unfoldable pub filled : (ℕ → ℕ) → ℕ → ℕ → List ℕ
-unfolding listOf
-filled F room k = listOf F k ++ replicate {A = ℕ} (room - k) 0
+unfolding inArray listOf
+filled F room k = inArray room (listOf F k)
+
+pub array-more : (room : ℕ) (l : List ℕ) (x n : ℕ) → length l ≡ n → n < room → set (inArray room l) n x ≡ inArray room (l ++ (x ∷ []))
+unfolding inArray
+array-more room l x n long lt =
+    let rest : ℕ = room - suc n in
+    let e : room - length l ≡ suc rest = omega arith in
+    let e′ : room - length (l ++ (x ∷ [])) ≡ rest = simp length-append (omega arith) in
+    rw (e, e′) (set-at l 0 (replicate {A = ℕ} rest 0) x n long ∙ sym (append-assoc l (x ∷ []) (replicate {A = ℕ} rest 0)))
+
+pub array-at : (room : ℕ) (l : List ℕ) (k : ℕ) → k < length l → getD (inArray room l) k 0 ≡ getD l k 0
+unfolding inArray
+array-at room l k lt = List·getD-append l (replicate {A = ℕ} (room - length l) 0) 0 k lt
 
 pub length-listOf : (F : ℕ → ℕ) (k : ℕ) → length (listOf F k) ≡ k
 unfolding listOf
@@ -44,12 +60,7 @@ filled-none F room = ap (λ (k : ℕ). replicate {A = ℕ} k 0) (sub-zero room)
 
 pub filled-more : (F : ℕ → ℕ) (room k : ℕ) → k < room → set (filled F room k) k (F k) ≡ filled F room (k + 1)
 unfolding filled
-filled-more F room k lt =
-    let rest : ℕ = room - (k + 1) in
-    let e : room - k ≡ suc rest = omega arith in
-    let less : room - suc k ≡ rest = omega arith in
-    rw (add-one k, e, less) (set-at (listOf F k) 0 (replicate {A = ℕ} rest 0) (F k) k (length-listOf F k)
-    ∙ sym (append-assoc (listOf F k) (F k ∷ []) (replicate {A = ℕ} rest 0)))
+filled-more F room k lt = rw (add-one k) (array-more room (listOf F k) (F k) k (length-listOf F k) lt)
 
 pub filled-length : (F : ℕ → ℕ) (room k : ℕ) → k ≤ room → length (filled F room k) ≡ room
 unfolding filled
@@ -57,12 +68,11 @@ filled-length F room k le = simp (length-append, length-listOf F k, length-repli
 
 pub filled-at : (F : ℕ → ℕ) (room k i : ℕ) → i < k → getD (filled F room k) i 0 ≡ F i
 unfolding filled
-filled-at F room k i lt =
-    List·getD-append (listOf F k) (replicate {A = ℕ} (room - k) 0) 0 i (omega (arith, length-listOf F k)) ∙ listOf-at F k i lt
+filled-at F room k i lt = array-at room (listOf F k) i (omega (arith, length-listOf F k)) ∙ listOf-at F k i lt
 
 pub filled-taken : (F : ℕ → ℕ) (room k : ℕ) → take k (filled F room k) ≡ listOf F k
 unfolding filled
-filled-taken F room k = take-at (listOf F k) (replicate {A = ℕ} (room - k) 0) k (length-listOf F k)
+filled-taken F room k = take-at (listOf F k) (replicate {A = ℕ} (room - length (listOf F k)) 0) k (length-listOf F k)
 
 listOf-same : (F G : ℕ → ℕ) (k : ℕ) → ((n : ℕ) → n < k → F n ≡ G n) → listOf F k ≡ listOf G k
 unfolding listOf

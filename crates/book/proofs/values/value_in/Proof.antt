@@ -6,11 +6,12 @@ use lib.ListN.{length, getD}
 use denote.Ref.{now}
 use borrow.Author.Tests.{le-leb, lt-leb, lt-ltb, le-ltb}
 use Rattle.minplus.specs.Curve.{Curve, value}
+use Rattle.curve.specs.Filled.{array-at}
 use Rattle.curve.specs.Held as held-curves
 use Rattle.curve.specs.declared.Curve as held-curve
 use Rattle.field.specs.Sound.{curve-well-formed}
 use Rattle.field.specs.Layout.{contentAt, curveIn}
-use Rattle.book.specs.Held.{readingOf, array-at, outcome-refused, outcome-sound}
+use Rattle.book.specs.Held.{readingOf, outcome-refused, outcome-sound}
 use Rattle.book.specs.Sound.{sound-book}
 use Rattle.book.specs.Values.{maxTick, askedOf, valueAsked}
 use Rattle.book.specs.Reading.{Contents, Read, sound, readBook}
