@@ -13,7 +13,7 @@ use Rattle.curve.specs.declared.Claim.the-variants.{Exactly}
 use Rattle.curve.specs.Filled.{listOf}
 use Rattle.field.specs.declared.Refusal.the-variants.{Torn}
 use Rattle.field.specs.declared.ClaimField.the-variants.{Stated}
-use Rattle.field.specs.Numbers.{numberAt}
+use Rattle.numbers.specs.Numbers.{numberAt}
 use Rattle.field.specs.Layout.{tagBy, contentAt}
 use Rattle.field.specs.Refusals.{claimField}
 use Rattle.book.specs.declared.Asked.the-variants.{Value}

@@ -20,7 +20,7 @@ use Rattle.field.specs.declared.Tag.{Tag}
 use Rattle.field.specs.declared.Tag.the-variants.{Version, Curve as CurveTag, Claim as ClaimTag, End}
 use Rattle.field.specs.declared.Tagged.{Tagged}
 use Rattle.field.specs.declared.Tagged.the-variants.{Known, Unknown}
-use Rattle.field.specs.Numbers.{numberAt}
+use Rattle.numbers.specs.Numbers.{numberAt}
 
 unfoldable pub tagNumber : Tag → ℕ
 tagNumber Version = 16

@@ -1,6 +1,5 @@
--- One field of a book: document 01's sections 'The book' and 'Refusal numbers', but for the loop over the fields. Numbers, Layout, Refusals and Steps are the definitions; Sound says what is
+-- One field of a book: document 01's sections 'The book' and 'Refusal numbers', but for the loop over the fields. Layout, Refusals and Steps are the definitions; Sound says what is
 -- known of a curve and of a claim that are not refused; Claims is for the code.
-pub mod Numbers
 pub mod Layout
 pub mod Refusals
 pub mod Steps

@@ -18,7 +18,7 @@ use Rattle.minplus.specs.Claim.{Kind, result, bound, maxX}
 use Rattle.minplus.specs.Search.{allBelow}
 use Rattle.curve.specs.Kinds.{claimWith}
 use Rattle.field.specs.declared.Refusal.{Refusal}
-use Rattle.field.specs.declared.Refusal.the-variants.{Torn, UnknownTag, OutOfOrder, TooMany, WrongVersion, CurveLength, CurvePeriod, TooManyUnits, CurveFalls, WrongClaim, NoSuchCurve, TooLarge, WrongEnd, BookTooLong}
+use Rattle.field.specs.declared.Refusal.the-variants.{Torn, UnknownTag, OutOfOrder, TooMany, WrongVersion, CurveLength, CurvePeriod, TooManyUnits, CurveFalls, WrongClaim, NoSuchCurve, TooLarge, WrongEnd, NoRoom, BookTooLong}
 use Rattle.field.specs.declared.Checked.{Checked}
 use Rattle.field.specs.declared.Checked.the-variants.{Sound, Refused}
 use Rattle.field.specs.declared.Tag.{Tag}
@@ -42,6 +42,7 @@ numberOf WrongClaim = 10
 numberOf NoSuchCurve = 11
 numberOf TooLarge = 12
 numberOf WrongEnd = 13
+numberOf NoRoom = 14
 numberOf BookTooLong = 15
 
 -- "Curves are numbered from 0, at most 16; claims at most 256."

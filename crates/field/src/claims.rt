@@ -7,11 +7,11 @@ use crate::Checked;
 use crate::ClaimField;
 use crate::Refusal;
 use crate::Stated;
-use crate::numbers::number1;
-use crate::numbers::number4;
 use crate::steps::content_at;
 use curve::Claim;
 use curve::Named;
+use numbers::number1;
+use numbers::number4;
 
 // Where the ids stand. The third is h; X stands there too.
 const LEFT: usize = 1;

@@ -7,11 +7,11 @@ ghost use Rattle.field.specs.Layout.{valueIn, curveIn, contentAt};
 ghost use Rattle.field.specs.Refusals.{valuesFit, valuesRise, curveFault};
 use crate::Checked;
 use crate::Refusal;
-use crate::numbers::number2;
-use crate::numbers::number4;
 use crate::steps::content_at;
 use curve::Curve;
 use curve::Ticks;
+use numbers::number2;
+use numbers::number4;
 
 // How many bytes stand before the values.
 const HEAD: usize = 8;

@@ -5,7 +5,6 @@ use curve::Claim;
 
 pub mod claims;
 pub mod curves;
-mod numbers;
 pub mod steps;
 
 // Why a book, or a question to it, is refused.
@@ -29,6 +28,8 @@ pub enum Refusal {
     TooLarge,
     // of a length other than 0, or with a byte after it
     WrongEnd,
+    // too few bytes in a lent buffer
+    NoRoom,
     BookTooLong,
 }
 
@@ -51,6 +52,7 @@ impl Refusal {
             Refusal::NoSuchCurve => 11,
             Refusal::TooLarge => 12,
             Refusal::WrongEnd => 13,
+            Refusal::NoRoom => 14,
             Refusal::BookTooLong => 15,
         }
     }

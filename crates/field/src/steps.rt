@@ -13,8 +13,8 @@ use crate::Tag;
 use crate::Tagged;
 use crate::claims::claim_fault;
 use crate::curves::curve_fault;
-use crate::numbers::number1;
-use crate::numbers::number2;
+use numbers::number1;
+use numbers::number2;
 
 // Tag and length.
 const HEAD: usize = 3;

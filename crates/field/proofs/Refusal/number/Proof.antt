@@ -45,6 +45,9 @@ enum-told-13 c = search needs
 enum-told-14 : tie.Need-enum-told-14
 enum-told-14 c = search needs
 
+enum-told-15 : tie.Need-enum-told-15
+enum-told-15 c = search needs
+
 returns : tie.Need-returns
 unfolding numberOf
 returns c = rw (c .enum-told .given .1)
@@ -101,6 +104,10 @@ returns-14 : tie.Need-returns-14
 unfolding numberOf
 returns-14 c = rw (c .enum-told14 .given .1)
 
+returns-15 : tie.Need-returns-15
+unfolding numberOf
+returns-15 c = rw (c .enum-told15 .given .1)
+
 pub number-spec : {M : Type 1} → statement M
 number-spec =
     tie.close
@@ -119,6 +126,7 @@ number-spec =
     enum-told-12
     enum-told-13
     enum-told-14
+    enum-told-15
     returns
     returns-2
     returns-3
@@ -132,4 +140,5 @@ number-spec =
     returns-11
     returns-12
     returns-13
-    returns-14)
+    returns-14
+    returns-15)

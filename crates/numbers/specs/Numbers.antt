@@ -32,7 +32,7 @@ pub number-torn : (w i : ℕ) (s : List ℕ) → length s < i + w → numberAt w
 unfolding numberAt
 number-torn w i s short = rw (lt-leb _ _ short, numberAt)
 
-after-append : (n : ℕ) (s t : List ℕ) → numberAfter n (s ++ t) ≡ numberAfter (numberAfter n s) t
+pub after-append : (n : ℕ) (s t : List ℕ) → numberAfter n (s ++ t) ≡ numberAfter (numberAfter n s) t
 unfolding numberAfter
 after-append n [] t = refl
 after-append n (b ∷ s) t = after-append (n * 256 + b) s t

@@ -1,8 +1,8 @@
 use mathlib.Core.Path.{sym}
 use native.Mathlib.Omega.{arith}
-use Rattle.field.specs.Numbers.{number-byte, number-torn}
-use Rattle.field.proofs.numbers.number1.Statement.{statement}
-use Rattle.field.proofs.numbers.number1.Tie as tie
+use Rattle.numbers.specs.Numbers.{number-byte, number-torn}
+use Rattle.numbers.proofs.number1.Statement.{statement}
+use Rattle.numbers.proofs.number1.Tie as tie
 use borrow.Author.Needs.{needs}
 
 shared-slice-read-result : tie.Need-shared-slice-read-result

@@ -1,8 +1,8 @@
 use mathlib.Core.Path.{sym}
 use native.Mathlib.Omega.{arith}
-use Rattle.field.specs.Numbers.{number-split, number-torn}
-use Rattle.field.proofs.numbers.number2.Statement.{statement}
-use Rattle.field.proofs.numbers.number2.Tie as tie
+use Rattle.numbers.specs.Numbers.{number-split, number-torn}
+use Rattle.numbers.proofs.number2.Statement.{statement}
+use Rattle.numbers.proofs.number2.Tie as tie
 use borrow.Author.Needs.{needs}
 
 returns : tie.Need-returns
