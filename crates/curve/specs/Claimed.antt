@@ -2,10 +2,12 @@
 --
 --     operationOf               kinds 1 to 3
 --     deviationOf, amountOf       kinds 4 to 7, and their X
---     boundOf, claimOf          the claim, from the enum and the curves beside it
+--     claimOver                 the claim, from the enum and curves
+--     claimOf, boundOf          the same, of curves in their working copies
 --     two-well                  of a well-formed claim the left and the right curve are well formed
 use Prim.Native.Nat.{ℕ}
 use Rattle.minplus.specs.Claim as C
+use Rattle.minplus.specs.Curve as M
 use Rattle.minplus.specs.Curve.{WellFormed}
 use Rattle.curve.specs.declared.Curve.{Curve}
 use Rattle.curve.specs.declared.Operation.{Operation}
@@ -30,14 +32,18 @@ abbrev pub deviationOf : Deviation → C.Deviation
 deviationOf (Delay x) = C.delay
 deviationOf (Backlog x) = C.backlog
 
+-- kinds 4 to 7 have no claimed curve
+abbrev pub claimOver : Claim → M.Curve → M.Curve → M.Curve → C.Claim
+claimOver (Equals o) f g h = C.equals (operationOf o) f g h
+claimOver (AtMost x) f g h = C.bounds (deviationOf x) C.atMost f g (amountOf x)
+claimOver (Exactly x) f g h = C.bounds (deviationOf x) C.exactly f g (amountOf x)
+
+abbrev pub claimOf : Claim → Curve → Curve → Curve → C.Claim
+claimOf c f g h = claimOver c (curveOf f) (curveOf g) (curveOf h)
+
+-- a bound alone
 abbrev pub boundOf : Deviation → C.Tightness → Curve → Curve → C.Claim
 boundOf x t f g = C.bounds (deviationOf x) t (curveOf f) (curveOf g) (amountOf x)
-
--- kinds 4 to 7 have no claimed curve
-abbrev pub claimOf : Claim → Curve → Curve → Curve → C.Claim
-claimOf (Equals o) f g h = C.equals (operationOf o) (curveOf f) (curveOf g) (curveOf h)
-claimOf (AtMost x) f g h = boundOf x C.atMost f g
-claimOf (Exactly x) f g h = boundOf x C.exactly f g
 
 pub two-well : (c : Claim) (f g h : Curve) → C.WellFormedClaim (claimOf c f g h) → WellFormed (curveOf f) × WellFormed (curveOf g)
 two-well (Equals o) f g h w = (w .0, w .1)

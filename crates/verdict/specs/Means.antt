@@ -18,7 +18,7 @@ use Rattle.verdict.specs.Given.{judgedOf, judgement, judgement-some}
 
 -- what the code may answer on a well-formed claim is its verdict
 module _ (r : Judged) (c : Claim) (well : WellFormedClaim c) (meets : judgedOf r ≡ judgement c) where
-  is-verdict : judgedOf r ≡ some (C.verdict c)
+  pub is-verdict : judgedOf r ≡ some (C.verdict c)
   is-verdict = meets ∙ sym (judgement-some c (well-formed-claim c .1 well))
 
   the-verdict : (v : C.Verdict) → (judgedOf r ≡ some v) ↔ (C.verdict c ≡ v)

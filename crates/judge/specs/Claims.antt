@@ -1,0 +1,97 @@
+-- The claims of a book over its curves.
+--
+--     curveNamed s places n       curve n of a book whose curves' fields begin at those places
+--     claimOn s places st         what a claim's field states, of those curves
+--     verdictIn s places curves p     the verdict on the claim whose field is at p, among so many curves
+--     StandsOver                  it is a claim of curves that are there and well formed: so is each of a sound book (stands-over)
+--     claim-well, verdict-stands     then it is well formed, and the verdict is that of document 01's rule
+--     stands-array, verdict-array    all the same where the places stand in an array
+use Prim.Native.Nat.{ℕ, _≤_, _<_}
+use mathlib.Core.Path.{_≡_, refl, sym, ap, subst, _∙_}
+use mathlib.Core.List.{List}
+use native.Mathlib.Omega.{arith}
+use lib.ListN.{length, getD}
+use Rattle.minplus.specs.Curve.{Curve, WellFormed}
+use Rattle.minplus.specs.Claim as M
+use Rattle.minplus.specs.Verdict.{Verdict, notJudged, verdict}
+use Rattle.curve.specs.Filled.{inArray, array-at}
+use Rattle.curve.specs.Claimed.{claimOver}
+use Rattle.curve.specs.Kinds.{xOf}
+use Rattle.curve.specs.declared.Claim.{Claim}
+use Rattle.curve.specs.declared.Claim.the-variants.{Equals, AtMost, Exactly}
+use Rattle.field.specs.declared.Stated.{Stated}
+use Rattle.field.specs.declared.ClaimField.{ClaimField}
+use Rattle.field.specs.declared.ClaimField.the-variants as claim-field
+use Rattle.field.specs.Layout.{curveIn, contentAt}
+use Rattle.field.specs.Refusals.{maxCurves, claimField}
+use Rattle.field.specs.Sound.{Stands, claim-stands, curve-well-formed}
+use Rattle.book.specs.Reading.{Contents}
+use Rattle.book.specs.Sound.{SoundBook}
+
+abbrev pub curveNamed : List ℕ → List ℕ → ℕ → Curve
+curveNamed s places n = curveIn (contentAt s (getD places n 0))
+
+abbrev pub claimOn : List ℕ → List ℕ → Stated → M.Claim
+claimOn s places st =
+    claimOver (st .claim) (curveNamed s places (st .left)) (curveNamed s places (st .right)) (curveNamed s places (st .claimed))
+
+-- a field that states no claim has nothing to judge; a sound book has no such field (stands-over)
+unfoldable pub verdictFor : List ℕ → List ℕ → ClaimField → Verdict
+unfolding verdict
+verdictFor s places (claim-field.Stated st) = verdict (claimOn s places st)
+verdictFor s places (claim-field.Refused x) = notJudged
+
+unfoldable pub verdictIn : List ℕ → List ℕ → ℕ → ℕ → Verdict
+unfolding verdictFor claimField
+verdictIn s places curves p = verdictFor s places (claimField curves (contentAt s p))
+
+pub record StandsOver (s places : List ℕ) (curves p : ℕ) : Type 0 where
+  pub stands : Stands curves (contentAt s p)
+  pub few : curves ≤ maxCurves
+  pub each-well : (n : ℕ) → n < curves → WellFormed (curveNamed s places n)
+
+-- ---- laws
+
+pub stands-over : (s : List ℕ) (c : Contents) → SoundBook s c → (k : ℕ) → k < length (c .claims)
+    → StandsOver s (c .curves) (length (c .curves)) (getD (c .claims) k 0)
+stands-over s c book k lt = record {
+  stands = claim-stands (length (c .curves)) (contentAt s (getD (c .claims) k 0)) (book .each-claim k lt);
+  few = book .curves-fit;
+  each-well = λ n named. curve-well-formed (contentAt s (getD (c .curves) n 0)) (book .each-curve n named);
+}
+
+module _ {s places : List ℕ} {curves p : ℕ} (over : StandsOver s places curves p) where
+  pub claim-well : M.WellFormedClaim (claimOn s places (over .stands .stated))
+  claim-well =
+      go (over .stands .stated .claim) (over .stands .x-fits)
+      (over .each-well _ (over .stands .left-named)) (over .each-well _ (over .stands .right-named)) (over .each-well _ (over .stands .claimed-named))
+    where
+      go : (c : Claim) → xOf c ≤ M.maxX → {f g h : Curve} → WellFormed f → WellFormed g → WellFormed h → M.WellFormedClaim (claimOver c f g h)
+      go (Equals o) x w w′ w″ = (w, w′, w″)
+      go (AtMost d) x w w′ w″ = (w, w′, x)
+      go (Exactly d) x w w′ w″ = (w, w′, x)
+
+  pub verdict-stands : verdictIn s places curves p ≡ verdict (claimOn s places (over .stands .stated))
+  unfolding verdictIn
+  verdict-stands = ap (verdictFor s places) (over .stands .so)
+
+module _ {s places : List ℕ} {curves p : ℕ} (over : StandsOver s places curves p) (all : curves ≡ length places) where
+  named-array : (n : ℕ) → n < curves → curveNamed s (inArray maxCurves places) n ≡ curveNamed s places n
+  named-array n named = ap (λ (q : ℕ). curveIn (contentAt s q)) (array-at maxCurves places n (omega (arith, all, named)))
+
+  pub stands-array : StandsOver s (inArray maxCurves places) curves p
+  stands-array = record {
+    stands = over .stands;
+    few = over .few;
+    each-well = λ n named. subst WellFormed (sym (named-array n named)) (over .each-well n named);
+  }
+
+  pub verdict-array : verdictIn s (inArray maxCurves places) curves p ≡ verdictIn s places curves p
+  unfolding stands-array
+  verdict-array =
+      verdict-stands stands-array
+      ∙ ap verdict (same (over .stands .stated .claim) (named-array _ (over .stands .left-named)) (named-array _ (over .stands .right-named)) (named-array _ (over .stands .claimed-named)))
+      ∙ sym (verdict-stands over)
+    where
+      same : (c : Claim) {f f′ g g′ h h′ : Curve} → f ≡ f′ → g ≡ g′ → h ≡ h′ → claimOver c f g h ≡ claimOver c f′ g′ h′
+      same c e e′ e″ = λ i. claimOver c (e i) (e′ i) (e″ i)

@@ -1,0 +1,204 @@
+-- A sound book as the code runs over it.
+--
+--     Told s places st           what is known of a claim's field that is read as st: its curves are there and well formed, and so is it (told)
+--     claim-held                 a claim of curves in their working copies
+--     verdict-given              the verdict on a well-formed claim
+--     Runs s book b              what the loop is given: a sound book as it is held, and a buffer with room for its records
+--     Written s b out totals k     where it stands after k claims; written-none, written-more: as it begins, and after one more
+use Prim.Native.Nat.{ℕ, zero, suc, _+_, _*_, _≤_, _<_}
+use mathlib.Core.Path.{_≡_, refl, sym, ap, subst, _∙_}
+use mathlib.Core.List.{List, []}
+use mathlib.Core.Option.{Option, none, some}
+use native.Mathlib.Omega.{arith}
+use lib.ListN.{length, getD}
+use Rattle.minplus.specs.Curve as M
+use Rattle.minplus.specs.Curve.{WellFormed}
+use Rattle.minplus.specs.Claim as C
+use Rattle.minplus.specs.Verdict.{Record, Verdict, notJudged, recordOf, verdict}
+use Rattle.curve.specs.declared.Curve.{Curve}
+use Rattle.curve.specs.declared.Claim.{Claim}
+use Rattle.curve.specs.Held.{curveOf, holding, holding-back}
+use Rattle.curve.specs.Filled.{array-at}
+use Rattle.curve.specs.Claimed.{claimOf, claimOver}
+use Rattle.verdict.specs.declared.Judged.{Judged}
+use Rattle.verdict.specs.Given.{judgedOf, judgement}
+use Rattle.verdict.specs.Means.{is-verdict}
+use Rattle.numbers.specs.Put.{put, put-nothing, length-put}
+use Rattle.field.specs.declared.Stated.{Stated}
+use Rattle.field.specs.declared.ClaimField.{ClaimField}
+use Rattle.field.specs.declared.ClaimField.the-variants as claim-field
+use Rattle.field.specs.Layout.{contentAt}
+use Rattle.field.specs.Refusals.{maxCurves, maxClaims, claimField}
+use Rattle.field.specs.Sound.{Stands}
+use Rattle.book.specs.declared.Places.{Places}
+use Rattle.book.specs.declared.Book.{Book}
+use Rattle.book.specs.Reading.{Contents, sound, readBook}
+use Rattle.book.specs.Held.{bookOf, placesOf}
+use Rattle.book.specs.Sound.{SoundBook, sound-book}
+use Rattle.judge.specs.declared.Totals.{Totals}
+use Rattle.judge.specs.Claims.{curveNamed, claimOn, verdictIn, StandsOver, stands-over, claim-well, stands-array, verdict-array}
+use Rattle.judge.specs.Records.{recordSize, recordBytes, recordsTo, length-records, records-more}
+use Rattle.judge.specs.Totals.{Countable, totalsTo, counted, totals-more, totals-add-up}
+use Rattle.judge.specs.Run.{verdictAt, recordAt, codeAt, totalsOn, bufferOn}
+
+pub record Runs (s : List ℕ) (book : Book) (b : List ℕ) : Type 0 where
+  pub contents : Contents
+  pub so : readBook s ≡ sound contents
+  pub held : book ≡ bookOf contents
+  pub room : recordSize * length (contents .claims) ≤ length b
+
+pub record Told (s places : List ℕ) (st : Stated) : Type 0 where
+  pub left-named : st .left < maxCurves
+  pub right-named : st .right < maxCurves
+  pub claimed-named : st .claimed < maxCurves
+  pub left-well : WellFormed (curveNamed s places (st .left))
+  pub right-well : WellFormed (curveNamed s places (st .right))
+  pub claimed-well : WellFormed (curveNamed s places (st .claimed))
+  pub claim-well : C.WellFormedClaim (claimOn s places st)
+
+abbrev pub orUnjudged : Option Verdict → Verdict
+orUnjudged none = notJudged
+orUnjudged (some v) = v
+
+-- ---- laws
+
+pub told : {s places : List ℕ} {curves p : ℕ} → StandsOver s places curves p → (st : Stated) → claimField curves (contentAt s p) ≡ claim-field.Stated st → Told s places st
+told {s} {places} {curves} {p} over st e = subst (Told s places) (ap statedOr (sym (stands .so) ∙ e)) so-far
+  where
+    statedOr : ClaimField → Stated
+    statedOr (claim-field.Stated x) = x
+    statedOr (claim-field.Refused x) = st
+
+    stands : Stands curves (contentAt s p)
+    stands = over .stands
+
+    so-far : Told s places (over .stands .stated)
+    so-far = record {
+      left-named = omega (arith, stands .left-named, over .few);
+      right-named = omega (arith, stands .right-named, over .few);
+      claimed-named = omega (arith, stands .claimed-named, over .few);
+      left-well = over .each-well _ (stands .left-named);
+      right-well = over .each-well _ (stands .right-named);
+      claimed-well = over .each-well _ (stands .claimed-named);
+      claim-well = claim-well over;
+    }
+
+-- curves in their working copies
+pub claim-held : (c : Claim) {f g h : Curve} (F G H : M.Curve) → f ≡ holding F → g ≡ holding G → h ≡ holding H → WellFormed F → WellFormed G → WellFormed H
+    → claimOf c f g h ≡ claimOver c F G H
+claim-held c {f} {g} {h} F G H e e′ e″ w w′ w″ =
+    let left : curveOf f ≡ F = ap curveOf e ∙ holding-back F w in
+    let right : curveOf g ≡ G = ap curveOf e′ ∙ holding-back G w′ in
+    let claimed : curveOf h ≡ H = ap curveOf e″ ∙ holding-back H w″ in
+    λ i. claimOver c (left i) (right i) (claimed i)
+
+pub verdict-given : (r : Judged) (c : C.Claim) → C.WellFormedClaim c → judgedOf r ≡ judgement c → orUnjudged (judgedOf r) ≡ verdict c
+verdict-given r c well meets = ap orUnjudged (is-verdict r c well meets)
+
+-- where a run stands after k claims
+pub record Written (s b : List ℕ) (claims curves : ℕ) (places : Places) (out : List ℕ) (totals : Totals) (k : ℕ) : Type 0 where
+  pub contents : Contents
+  pub so : readBook s ≡ sound contents
+  pub claim-count : claims ≡ length (contents .claims)
+  pub curve-count : curves ≡ length (contents .curves)
+  pub held : places ≡ placesOf (contents .curves) (contents .claims)
+  pub room : recordSize * length (contents .claims) ≤ length b
+  pub records : out ≡ put b 0 (recordsTo (recordAt s contents) k)
+  pub counts : totals ≡ totalsTo (codeAt s contents) k
+  pub done : k ≤ length (contents .claims)
+
+pub written-none : {s b : List ℕ} {book : Book} → Runs s book b
+    → Written s b (book .claims) (book .curves) (book .places) b (record { accepted = 0; refuted = 0; unjudged = 0 }) 0
+unfolding recordsTo totalsTo
+written-none {s} {b} {book} runs = record {
+  contents = runs .contents;
+  so = runs .so;
+  claim-count = ap (λ (x : Book). x .claims) (runs .held);
+  curve-count = ap (λ (x : Book). x .curves) (runs .held);
+  held = ap (λ (x : Book). x .places) (runs .held);
+  room = runs .room;
+  records = sym (put-nothing b 0);
+  counts = refl;
+  done = omega arith;
+}
+
+module _ {s b : List ℕ} {claims curves : ℕ} {places : Places} {out : List ℕ} {totals : Totals} {k : ℕ}
+    (written : Written s b claims curves places out totals k) where
+  abbrev c : Contents
+  c = written .contents
+
+  book-so : SoundBook s c
+  book-so = sound-book s c (written .so)
+
+  pub claims-few : claims ≤ maxClaims
+  claims-few = omega (arith, written .claim-count, book-so .claims-fit)
+
+  -- no more are counted than there are claims
+  pub countable : Countable totals
+  countable = record {
+    few = rw (written .counts) (omega (arith, totals-add-up (verdictAt s c) k, written .done, book-so .claims-fit));
+  }
+
+  pub length-written : length out ≡ length b
+  length-written = rw (written .records) (length-put b 0 (recordsTo (recordAt s c) k) (omega (arith, length-records (recordAt s c) k, written .done, written .room)))
+
+  -- the next claim
+  module _ (next : k < claims) where
+    here : k < length (c .claims)
+    here = omega (arith, next, written .claim-count)
+
+    place-is : getD (places .claims) k 0 ≡ getD (c .claims) k 0
+    place-is = ap (λ (x : Places). getD (x .claims) k 0) (written .held) ∙ array-at maxClaims (c .claims) k here
+
+    over : StandsOver s (c .curves) curves (getD (places .claims) k 0)
+    over =
+        subst (λ (n : ℕ). StandsOver s (c .curves) n (getD (places .claims) k 0)) (sym (written .curve-count))
+        (subst (StandsOver s (c .curves) (length (c .curves))) (sym place-is) (stands-over s c book-so k here))
+
+    pub stands-held : StandsOver s (places .curves) curves (getD (places .claims) k 0)
+    stands-held = subst (λ (x : Places). StandsOver s (x .curves) curves (getD (places .claims) k 0)) (sym (written .held)) (stands-array over (written .curve-count))
+
+    verdict-is : verdictIn s (places .curves) curves (getD (places .claims) k 0) ≡ verdictAt s c k
+    unfolding verdictAt
+    verdict-is =
+        ap (λ (x : Places). verdictIn s (x .curves) curves (getD (places .claims) k 0)) (written .held) ∙ verdict-array over (written .curve-count)
+        ∙ ap (λ (n : ℕ). verdictIn s (c .curves) n (getD (places .claims) k 0)) (written .curve-count)
+        ∙ ap (verdictIn s (c .curves) (length (c .curves))) place-is
+
+    pub record-room : recordSize * k + recordSize ≤ length out
+    record-room = omega (arith, length-written, written .room, here)
+
+    pub written-more : {out′ : List ℕ} {totals′ : Totals} (r : Record) → r ≡ recordOf (verdictIn s (places .curves) curves (getD (places .claims) k 0))
+        → out′ ≡ put out (recordSize * k) (recordBytes r) → totals′ ≡ counted totals (r .code)
+        → Written s b claims curves places out′ totals′ (k + 1)
+    written-more r e e′ e″ =
+        let is : r ≡ recordAt s c k = e ∙ ap recordOf verdict-is in
+        record {
+          contents = c;
+          so = written .so;
+          claim-count = written .claim-count;
+          curve-count = written .curve-count;
+          held = written .held;
+          room = written .room;
+          records =
+              e′ ∙ ap (λ (x : Record). put out (recordSize * k) (recordBytes x)) is
+              ∙ ap (λ (x : List ℕ). put x (recordSize * k) (recordBytes (recordAt s c k))) (written .records)
+              ∙ records-more b (recordAt s c) k (omega (arith, here, written .room));
+          counts =
+              e″ ∙ ap (λ (x : Record). counted totals (x .code)) is ∙ ap (λ (x : Totals). counted x (codeAt s c k)) (written .counts)
+              ∙ totals-more (codeAt s c) k;
+          done = omega (arith, here);
+        }
+
+pub written-all : {s b : List ℕ} {claims curves : ℕ} {places : Places} {out : List ℕ} {totals : Totals} {k : ℕ} → Written s b claims curves places out totals k → claims ≤ k
+    → (totals ≡ totalsOn s (readBook s)) × (out ≡ bufferOn s b (readBook s))
+unfolding totalsOn bufferOn
+written-all {s} {b} {k = k} written all =
+    let c = written .contents in
+    let last : k ≡ length (c .claims) = omega (arith, all, written .claim-count, written .done) in
+    (rw (written .so) (rw last at (written .counts)), rw (written .so) (rw last at (written .records)))
+
+-- the totals of a sound book are no more than it may have claims
+pub sound-countable : (s : List ℕ) (c : Contents) → readBook s ≡ sound c → Countable (totalsOn s (readBook s))
+unfolding totalsOn
+sound-countable s c e = rw e (record { few = omega (arith, totals-add-up (verdictAt s c) (length (c .claims)), sound-book s c e .claims-fit) })

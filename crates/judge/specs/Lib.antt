@@ -1,0 +1,7 @@
+-- The run over a book: document 01's answer and records, for any bytes and any lent buffer. Claims, Records, Totals and Run are the definitions; Inspector says what they tell of
+-- every claim at every tick; Held is for the code.
+pub mod Claims
+pub mod Records
+pub mod Totals
+pub mod Run
+pub mod Held

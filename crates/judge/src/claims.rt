@@ -1,0 +1,55 @@
+// One claim of a sound book: its curves are read where they stand.
+ghost use mathlib.Core.Path.{_≡_};
+ghost use Prim.Native.Nat.{_<_};
+ghost use Rattle.minplus.specs.Claim.{WellFormedClaim};
+ghost use Rattle.minplus.specs.Verdict.{verdict, recordOf};
+ghost use Rattle.curve.specs.Claimed.{claimOf};
+ghost use Rattle.curve.specs.Held.{holding};
+ghost use Rattle.verdict.specs.Given.{verdictOf, recordIn};
+ghost use Rattle.field.specs.Refusals.{maxCurves};
+ghost use Rattle.judge.specs.Claims.{curveNamed, verdictIn, StandsOver};
+use book::Places;
+use curve::Claim;
+use curve::Curve;
+use field::ClaimField;
+use field::claims::claim_at;
+use field::curves::curve_at;
+use verdict::Judged;
+use verdict::Record;
+use verdict::Verdict;
+use verdict::record_of;
+use verdict::verdict_on;
+
+fn curve_named(book: &[u8], places: Places, n: usize) -> Curve
+    requires { ⌜ n < maxCurves ⌝ }
+    ensures { λ r. ⌜ r ≡ holding (curveNamed (now (book .entry)) (places .curves) n) ⌝ }
+{
+    let place = places.curves[n];
+    curve_at(book, place as usize)
+}
+
+// A well-formed claim has a verdict.
+fn verdict_over(claim: Claim, f: Curve, g: Curve, h: Curve) -> Verdict
+    requires { ⌜ WellFormedClaim (claimOf claim f g h) ⌝ }
+    ensures { λ r. ⌜ verdictOf r ≡ verdict (claimOf claim f g h) ⌝ }
+{
+    match verdict_on(claim, f, g, h) {
+        Judged::Verdict(v) => v,
+        Judged::IllFormed => Verdict::NotJudged,
+    }
+}
+
+// The record on the claim whose field is at `place`, in a book of so many curves.
+pub(crate) fn record_at(book: &[u8], places: Places, curves: usize, place: usize) -> Record
+    requires { ⌜ StandsOver (now book) (places .curves) curves place ⌝ }
+    ensures { λ r. ⌜ recordIn r ≡ recordOf (verdictIn (now (book .entry)) (places .curves) curves place) ⌝ }
+{
+    let ClaimField::Stated(stated) = claim_at(book, place, curves) else {
+        return record_of(Verdict::NotJudged);
+    };
+    let claim = stated.claim;
+    let f = curve_named(book, places, stated.left);
+    let g = curve_named(book, places, stated.right);
+    let h = curve_named(book, places, stated.claimed);
+    record_of(verdict_over(claim, f, g, h))
+}

@@ -1,0 +1,58 @@
+// The records of a sound book, one after the other.
+ghost use mathlib.Core.Path.{_≡_};
+ghost use Prim.Native.Nat.{_+_, _≤_};
+ghost use lib.ListN.{length};
+ghost use Rattle.numbers.specs.Put.{put as putAt};
+ghost use Rattle.book.specs.Reading.{readBook};
+ghost use Rattle.judge.specs.Records.{recordBytes, recordSize};
+ghost use Rattle.judge.specs.Run.{totalsOn, bufferOn};
+ghost use Rattle.judge.specs.Held.{Runs};
+use crate::Totals;
+use crate::answers::counted;
+use crate::claims::record_at;
+use book::Book;
+use numbers::put;
+
+fn put_record(out: &mut [u8], at: usize, code: u64, tick: u64, left: u64, right: u64)
+    requires { ⌜ at + recordSize ≤ length (now out) ⌝ }
+    ensures { λ _. ⌜ now (out .exit) ≡ putAt (now (out .entry)) at (recordBytes (record { code = code; tick = tick; left = left; right = right })) ⌝ }
+{
+    put(out, at, 1, code);
+    put(out, at + 1, 4, tick);
+    put(out, at + 5, 8, left);
+    put(out, at + 13, 8, right);
+}
+
+pub(crate) fn run(book: &[u8], sound: Book, verdicts: &mut [u8]) -> Totals
+    requires { ⌜ Runs (now book) sound (now verdicts) ⌝ }
+    ensures { λ r. ⌜ r ≡ totalsOn (now (book .entry)) (readBook (now (book .entry))) ⌝ }
+    ensures { λ _. ⌜ now (verdicts .exit) ≡ bufferOn (now (book .entry)) (now (verdicts .entry)) (readBook (now (book .entry))) ⌝ }
+{
+    let claims = sound.claims;
+    let curves = sound.curves;
+    let places = sound.places;
+    let mut totals = Totals {
+        accepted: 0,
+        refuted: 0,
+        unjudged: 0,
+    };
+    let mut k: usize = 0;
+    while k < claims {
+        let place = places.claims[k];
+        let told = record_at(book, places, curves, place as usize);
+        let tick = told.tick;
+        let left = told.left;
+        let right = told.right;
+        put_record(
+            verdicts,
+            Totals::RECORD * k,
+            told.code as u64,
+            tick.0 as u64,
+            left.0,
+            right.0,
+        );
+        totals = counted(totals, told.code);
+        k += 1;
+    }
+    totals
+}
