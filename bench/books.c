@@ -1,5 +1,5 @@
-/* books ROUNDS < BOOK: judges the book by the proved judge and by plain_judge in turn and prints the least time of each in nanoseconds. Both must
-   give the same answer and the same bytes, in each round. */
+/* books ROUNDS < BOOK: judges the book by the proved judge and by plain_judge in turn. Prints the least processor time of each in nanoseconds and the
+   number of claims. Both must give the same answer and the same bytes, in each round. */
 #include "../include/zurmakida.h"
 #include <stdio.h>
 #include <stdlib.h>
@@ -18,7 +18,7 @@ struct run {
 
 static uint64_t nanoseconds(void) {
     struct timespec now;
-    clock_gettime(CLOCK_MONOTONIC, &now);
+    clock_gettime(CLOCK_PROCESS_CPUTIME_ID, &now);
     return (uint64_t)now.tv_sec * 1000000000 + (uint64_t)now.tv_nsec;
 }
 

@@ -45,5 +45,5 @@ void _exit(int) __attribute__((noreturn));
 struct timespec {
     long tv_sec, tv_nsec;
 };
-#define CLOCK_MONOTONIC 1
+#define CLOCK_PROCESS_CPUTIME_ID 2
 int clock_gettime(int, struct timespec *);
