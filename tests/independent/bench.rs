@@ -1,0 +1,90 @@
+//! Books to measure with, and the measure itself.
+//!
+//! bench    `worst` is 256 accepted convolutions with a horizon of exactly 4,096; a kind's
+//!          name gives 256 small claims of that kind
+//! least    the least time of a turn, in nanoseconds
+
+use crate::book::{Book, MOST_CLAIMS, MOST_CURVES};
+use crate::dice::Dice;
+use crate::judge::{answer, decide, RECORD};
+use crate::law::{horizon, verdict, Verdict, MOST_HORIZON};
+use crate::make::{one_claim, steep_triple};
+use std::hint::black_box;
+use std::time::Instant;
+
+const KINDS: [&str; 7] = [
+    "sum",
+    "minimum",
+    "convolution",
+    "delay",
+    "exact_delay",
+    "backlog",
+    "exact_backlog",
+];
+
+pub fn bench(name: &str) -> Option<Book> {
+    if name == "worst" {
+        return Some(worst());
+    }
+    let kind = KINDS.iter().position(|k| *k == name)?;
+    Some(small_claims(kind as u8 + 1))
+}
+
+/// Four triples in turn. Each tick n tries n+1 sums: 8,394,753 for a claim.
+fn worst() -> Book {
+    let mut book = Book::default();
+    for which in 0..4 {
+        let [f, g, h] = steep_triple(which, MOST_HORIZON - 2 * 2_021);
+        let (left, right, third) = (book.add(f), book.add(g), book.add(h));
+        book.claim(3, left, right, third.into());
+    }
+    for claim in &book.claims {
+        assert_eq!(horizon(&book, claim), MOST_HORIZON);
+        assert_eq!(verdict(&book, claim), Verdict::Accepted);
+    }
+    repeated(book)
+}
+
+fn repeated(mut book: Book) -> Book {
+    book.claims = book
+        .claims
+        .iter()
+        .cycle()
+        .take(MOST_CLAIMS)
+        .copied()
+        .collect();
+    book
+}
+
+/// Five or more small claims with their curves, again and again.
+fn small_claims(kind: u8) -> Book {
+    let mut book = Book::default();
+    for index in 0.. {
+        let mut dice = Dice::new(u64::from(kind), index);
+        let one = one_claim(&mut dice, kind, 40);
+        let first = book.curves.len();
+        if first + one.curves.len() > MOST_CURVES {
+            break;
+        }
+        book.curves.extend(one.curves);
+        for mut claim in one.claims {
+            claim.left += first as u8;
+            claim.right += first as u8;
+            if kind <= 3 {
+                claim.third += first as i64;
+            }
+            book.claims.push(claim);
+        }
+    }
+    repeated(book)
+}
+
+pub fn least(turns: u64, bytes: &[u8]) -> u128 {
+    let mut room = vec![0; MOST_CLAIMS * RECORD];
+    let mut turn = || {
+        let start = Instant::now();
+        black_box(answer(&decide(black_box(bytes)), black_box(&mut room)));
+        start.elapsed().as_nanos()
+    };
+    (0..turns).map(|_| turn()).min().unwrap_or(0)
+}

@@ -1,0 +1,287 @@
+//! Answers compared with the due ones, byte for byte, and what the cases have reached.
+//!
+//! check    reads one answer for each case; the first difference ends the run
+//! Seen     counts of refusals by reason, verdicts by kind and code, buffers by length
+
+use crate::book::{Refusal, REASONS};
+use crate::cases::{case, Ask, Case};
+use crate::judge::{answer, ask_value, decide, refusal_number, room_enough, RECORD};
+use crate::law::Verdict;
+use crate::text::{hex, words};
+use std::cmp::Ordering;
+use std::collections::BTreeMap;
+use std::io::Read;
+
+/// The codes that a kind can have.
+pub fn codes(kind: u8) -> &'static [u8] {
+    match kind {
+        1..=3 => &[1, 2, 5],
+        4 | 6 => &[1, 2, 3, 5],
+        _ => &[1, 2, 3, 4, 5],
+    }
+}
+
+#[derive(Default)]
+struct Seen {
+    labels: BTreeMap<&'static str, u64>,
+    judged: u64,
+    claims: u64,
+    refusals: BTreeMap<(u8, &'static str), u64>,
+    verdicts: BTreeMap<(u8, u8), u64>,
+    rooms: [u64; 3],
+    values: u64,
+    asked_refusals: BTreeMap<(u8, bool), u64>,
+}
+
+/// The summary, or the report of the first difference.
+pub fn check(seed: u64, count: u64, answers: &mut impl Read) -> Result<String, String> {
+    let mut seen = Seen::default();
+    for index in 0..count {
+        let case = case(seed, index);
+        *seen.labels.entry(case.label).or_default() += 1;
+        let compared = match &case.ask {
+            Ask::Judge(room) => judge_case(&case, room, answers, &mut seen),
+            Ask::Value { curve, tick } => value_case(&case, *curve, *tick, answers, &mut seen),
+        };
+        compared.map_err(|report| {
+            let book = hex(&case.book);
+            format!("case {index} ({}): {report}\nbook {book}\n", case.label)
+        })?;
+    }
+    if !take(answers, 1).is_err_and(|e| e.is_empty()) {
+        return Err("bytes are left after the last answer\n".into());
+    }
+    seen.finish()
+}
+
+/// Exactly `length` bytes, or the fewer that were left.
+fn take(answers: &mut impl Read, length: usize) -> Result<Vec<u8>, Vec<u8>> {
+    let mut bytes = Vec::new();
+    match answers.take(length as u64).read_to_end(&mut bytes) {
+        Ok(n) if n == length => Ok(bytes),
+        _ => Err(bytes),
+    }
+}
+
+fn take_number(answers: &mut impl Read) -> Result<u64, String> {
+    let bytes = take(answers, 8).map_err(|_| "the answer is missing".to_string())?;
+    Ok(bytes.iter().fold(0, |n, b| n * 256 + u64::from(*b)))
+}
+
+fn judge_case(
+    case: &Case,
+    room: &[u8],
+    answers: &mut impl Read,
+    seen: &mut Seen,
+) -> Result<(), String> {
+    let decision = decide(&case.book);
+    seen.judge(&decision, room.len());
+    let mut due_room = room.to_vec();
+    let due = answer(&decision, &mut due_room);
+    let got = take_number(answers)?;
+    let got_room = take(answers, room.len()).map_err(|_| "the buffer is missing")?;
+    if got == due && got_room == due_room {
+        return Ok(());
+    }
+    let mut report = format!("judge, buffer of {} bytes\n", room.len());
+    if got != due {
+        report += &format!("due {}\ngot {}\n", spelled(due), spelled(got));
+    }
+    if let Some(at) = (0..room.len()).find(|i| got_room[*i] != due_room[*i]) {
+        report += &room_report(&decision, &due_room, &got_room, at);
+    }
+    Err(report)
+}
+
+fn spelled(answer: u64) -> String {
+    format!(
+        "{answer:016X}: refusal {} at {}, accepted {}, refuted {}, not judged {}",
+        answer & 0xFF,
+        answer >> 8 & 0xFFFF,
+        answer >> 24 & 0xFFF,
+        answer >> 36 & 0xFFF,
+        answer >> 48
+    )
+}
+
+fn room_report(
+    decision: &Result<Vec<(u8, Verdict)>, Refusal>,
+    due: &[u8],
+    got: &[u8],
+    at: usize,
+) -> String {
+    let (due_byte, got_byte) = (due[at], got[at]);
+    let record = at / RECORD;
+    let end = due.len().min((record + 1) * RECORD);
+    let within = record * RECORD..end;
+    let claim = match decision {
+        Ok(verdicts) => match verdicts.get(record) {
+            Some((kind, verdict)) => format!("claim {record} of kind {kind}: {}", words(verdict)),
+            None => "after the last record, must stay".into(),
+        },
+        Err(refusal) => format!("refused ({}), must stay", refusal.why),
+    };
+    format!(
+        "buffer differs first at byte {at}: due {due_byte:02X}, got {got_byte:02X}\n\
+         record {record}, byte {} of it; {claim}\ndue {}\ngot {}\n",
+        at % RECORD,
+        hex(&due[within.clone()]),
+        hex(&got[within])
+    )
+}
+
+fn value_case(
+    case: &Case,
+    curve: u64,
+    tick: u64,
+    answers: &mut impl Read,
+    seen: &mut Seen,
+) -> Result<(), String> {
+    let outcome = ask_value(&case.book, curve, tick);
+    seen.value(&outcome);
+    let (due_refusal, due_value) = match &outcome {
+        Ok(value) => (0, *value),
+        Err(refusal) => (refusal_number(refusal), 0),
+    };
+    let refusal = take_number(answers)?;
+    let value = take_number(answers)?;
+    if (refusal, value) == (due_refusal, due_value) {
+        return Ok(());
+    }
+    Err(format!(
+        "value of curve {curve} at tick {tick}\n\
+         due refusal {} at {}, value {due_value}\ngot refusal {} at {}, value {value}\n",
+        due_refusal & 0xFF,
+        due_refusal >> 8,
+        refusal & 0xFF,
+        refusal >> 8
+    ))
+}
+
+impl Seen {
+    fn judge(&mut self, decision: &Result<Vec<(u8, Verdict)>, Refusal>, room: usize) {
+        self.judged += 1;
+        let verdicts = match decision {
+            Ok(verdicts) => verdicts,
+            Err(refusal) => return self.refuse(refusal),
+        };
+        let size = match room.cmp(&(verdicts.len() * RECORD)) {
+            Ordering::Less => 0,
+            Ordering::Equal => 1,
+            Ordering::Greater => 2,
+        };
+        self.rooms[size] += 1;
+        if let Err(refusal) = room_enough(verdicts.len(), room) {
+            return self.refuse(&refusal);
+        }
+        for (kind, verdict) in verdicts {
+            self.claims += 1;
+            *self.verdicts.entry((*kind, verdict.code())).or_default() += 1;
+        }
+    }
+
+    fn refuse(&mut self, refusal: &Refusal) {
+        let reason = (refusal.number, refusal.why);
+        *self.refusals.entry(reason).or_default() += 1;
+    }
+
+    fn value(&mut self, outcome: &Result<u64, Refusal>) {
+        match outcome {
+            Ok(_) => self.values += 1,
+            Err(refusal) => {
+                let asked = refusal.why.starts_with("asked");
+                let entry = self.asked_refusals.entry((refusal.number, asked));
+                *entry.or_default() += 1;
+            }
+        }
+    }
+
+    fn finish(self) -> Result<String, String> {
+        let missing = self.missing();
+        let mut text = self.summary();
+        if missing.is_empty() {
+            return Ok(text);
+        }
+        for m in missing {
+            text += &format!("not seen: {m}\n");
+        }
+        Err(text)
+    }
+
+    fn missing(&self) -> Vec<String> {
+        let mut missing = Vec::new();
+        for reason in REASONS {
+            if !self.refusals.contains_key(&reason) {
+                missing.push(format!("refusal {}, {}", reason.0, reason.1));
+            }
+        }
+        for kind in 1..=7 {
+            let unseen = |code: &&u8| !self.verdicts.contains_key(&(kind, **code));
+            for code in codes(kind).iter().filter(unseen) {
+                missing.push(format!("kind {kind} code {code}"));
+            }
+        }
+        for (size, name) in ["too short", "exact", "too long"].iter().enumerate() {
+            if self.rooms[size] == 0 {
+                missing.push(format!("a buffer that is {name}"));
+            }
+        }
+        missing.extend(self.missing_values());
+        missing
+    }
+
+    fn missing_values(&self) -> Vec<String> {
+        let mut missing = Vec::new();
+        if self.values == 0 {
+            missing.push("a value".into());
+        }
+        for number in [11, 12] {
+            if !self.asked_refusals.contains_key(&(number, true)) {
+                missing.push(format!("a value query refused with {number}"));
+            }
+        }
+        if !self.asked_refusals.keys().any(|(_, asked)| !asked) {
+            missing.push("a value query of a bad book".into());
+        }
+        missing
+    }
+
+    fn summary(&self) -> String {
+        let mut text = String::from("cases\n");
+        for (label, count) in &self.labels {
+            text += &format!("  {count:7} {label}\n");
+        }
+        text += "refusals of judge\n";
+        for ((number, why), count) in &self.refusals {
+            text += &format!("  {count:7} {number:2} {why}\n");
+        }
+        text += "claims, kind by code\n             1       2       3       4       5\n";
+        for kind in 1..=7u8 {
+            text += &format!("  {kind}  ");
+            for code in 1..=5u8 {
+                let count = self.verdicts.get(&(kind, code)).copied().unwrap_or(0);
+                text += &format!(" {count:7}");
+            }
+            text += "\n";
+        }
+        let [short, exact, long] = self.rooms;
+        text += &format!(
+            "books judged {}, claims {}; buffers of sound books: \
+             too short {short}, exact {exact}, too long {long}\n",
+            self.judged, self.claims
+        );
+        text + &self.value_summary()
+    }
+
+    fn value_summary(&self) -> String {
+        let count = |number| self.asked_refusals.get(&(number, true)).unwrap_or(&0);
+        let bad = self.asked_refusals.iter().filter(|((_, asked), _)| !asked);
+        format!(
+            "value queries: {} values, {} no such curve, {} tick too large, {} bad books\n",
+            self.values,
+            count(11),
+            count(12),
+            bad.map(|(_, n)| n).sum::<u64>()
+        )
+    }
+}

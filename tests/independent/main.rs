@@ -1,0 +1,117 @@
+//! The independent program: document 01 once more, naively, beside the judge it tests.
+//!
+//! book.rs      the layout, read and written        law.rs       values, horizons, verdicts
+//! judge.rs     the entries' answers                text.rs      the program's lines
+//! make.rs      sound books                         spoil.rs     spoiled ones
+//! cases.rs     the cases and their form            check.rs     answers compared
+//! beyond.rs    the rule against the definitions    examples.rs  the books of books/
+//! bench.rs     books to measure with               dice.rs      the fixed generator
+
+mod bench;
+mod beyond;
+mod book;
+mod cases;
+mod check;
+mod dice;
+mod examples;
+mod judge;
+mod law;
+mod make;
+mod spoil;
+mod text;
+
+use std::env;
+use std::io::{self, BufReader, BufWriter, Read, Write};
+use std::path::Path;
+use std::process::ExitCode;
+
+const USAGE: &str = "\
+independent cases SEED COUNT     writes cases
+independent check SEED COUNT     reads their answers and compares
+independent beyond SEED COUNT    tries COUNT claims of each kind far beyond the horizon
+independent examples DIR         writes the example books and their lines
+independent lines < BOOK         prints the lines due for a book
+independent time TURNS < BOOK    prints the least time of a turn in nanoseconds
+independent bench NAME           writes a book to measure with: worst, sum, minimum,
+                                 convolution, delay, exact_delay, backlog, exact_backlog
+";
+
+fn main() -> ExitCode {
+    let words: Vec<String> = env::args().skip(1).collect();
+    let words: Vec<&str> = words.iter().map(String::as_str).collect();
+    let done = match words.as_slice() {
+        ["cases", seed, count] => cases(seed, count),
+        ["check", seed, count] => check(seed, count),
+        ["beyond", seed, count] => beyond(seed, count),
+        ["examples", folder] => examples(folder),
+        ["lines"] => lines(),
+        ["time", turns] => time(turns),
+        ["bench", name] => bench(name),
+        _ => {
+            eprint!("{USAGE}");
+            return ExitCode::from(2);
+        }
+    };
+    match done {
+        Ok(()) => ExitCode::SUCCESS,
+        Err(report) => {
+            eprintln!("{report}");
+            ExitCode::FAILURE
+        }
+    }
+}
+
+fn number(word: &str) -> Result<u64, String> {
+    word.parse().map_err(|_| format!("not a number: {word}"))
+}
+
+fn failed(error: io::Error) -> String {
+    error.to_string()
+}
+
+fn input() -> Result<Vec<u8>, String> {
+    let mut bytes = Vec::new();
+    io::stdin().read_to_end(&mut bytes).map_err(failed)?;
+    Ok(bytes)
+}
+
+fn cases(seed: &str, count: &str) -> Result<(), String> {
+    let (seed, count) = (number(seed)?, number(count)?);
+    let mut out = BufWriter::new(io::stdout().lock());
+    for index in 0..count {
+        cases::write(&cases::case(seed, index), &mut out).map_err(failed)?;
+    }
+    out.flush().map_err(failed)
+}
+
+fn check(seed: &str, count: &str) -> Result<(), String> {
+    let mut answers = BufReader::new(io::stdin().lock());
+    let summary = check::check(number(seed)?, number(count)?, &mut answers)?;
+    print!("{summary}");
+    Ok(())
+}
+
+fn beyond(seed: &str, count: &str) -> Result<(), String> {
+    print!("{}", beyond::beyond(number(seed)?, number(count)?)?);
+    Ok(())
+}
+
+fn examples(folder: &str) -> Result<(), String> {
+    let examples = examples::examples()?;
+    examples::write_examples(&examples, Path::new(folder)).map_err(failed)
+}
+
+fn lines() -> Result<(), String> {
+    print!("{}", text::lines(&input()?));
+    Ok(())
+}
+
+fn time(turns: &str) -> Result<(), String> {
+    println!("{}", bench::least(number(turns)?, &input()?));
+    Ok(())
+}
+
+fn bench(name: &str) -> Result<(), String> {
+    let book = bench::bench(name).ok_or(format!("no such book: {name}"))?;
+    io::stdout().write_all(&book.bytes()).map_err(failed)
+}

@@ -1,0 +1,58 @@
+//! The lines that the program prints for a book, and readable forms for reports.
+
+use crate::book::Refusal;
+use crate::judge::{decide, Totals};
+use crate::law::Verdict;
+
+pub fn lines(bytes: &[u8]) -> String {
+    match decide(bytes) {
+        Err(refusal) => refused(&refusal),
+        Ok(verdicts) => judged(&verdicts),
+    }
+}
+
+fn refused(refusal: &Refusal) -> String {
+    format!("refused {} at {}\n", refusal.number, refusal.place)
+}
+
+fn judged(verdicts: &[(u8, Verdict)]) -> String {
+    let mut text = String::new();
+    for (k, (_, verdict)) in verdicts.iter().enumerate() {
+        text += &format!("claim {k} {}\n", words(verdict));
+    }
+    let totals = Totals::of(verdicts);
+    text += &format!(
+        "total {} accepted {} refuted {} unjudged {}\n",
+        verdicts.len(),
+        totals.accepted,
+        totals.refuted,
+        totals.unjudged
+    );
+    let certified = !verdicts.is_empty() && totals.accepted == verdicts.len() as u64;
+    text += if certified {
+        "certified yes\n"
+    } else {
+        "certified no\n"
+    };
+    text
+}
+
+pub fn words(verdict: &Verdict) -> String {
+    match verdict {
+        Verdict::Accepted => "accepted".into(),
+        Verdict::RefutedAt((n, v, w)) => format!("refuted at {n} left {v} right {w}"),
+        Verdict::ByRate => "refuted by rate".into(),
+        Verdict::NotLeast => "refuted not least".into(),
+        Verdict::NotJudged => "not judged".into(),
+    }
+}
+
+/// At most the first 4,096 bytes, so that a report stays readable.
+pub fn hex(bytes: &[u8]) -> String {
+    let shown = &bytes[..bytes.len().min(4_096)];
+    let mut text: String = shown.iter().map(|b| format!("{b:02X}")).collect();
+    if shown.len() < bytes.len() {
+        text += &format!("... ({} bytes in all)", bytes.len());
+    }
+    text
+}
