@@ -2,13 +2,14 @@
 //! far beyond the horizon.
 //!
 //! beyond       small claims of each kind; the first disagreement ends the run
+//! defined, against    the definitions, written out again rather than taken from law.rs
 //! operation    kinds 1 to 3: the definition to 4*horizon+50, and R itself
 //! bound        kinds 4 to 7: the same, and how far a rate takes to break a bound
 
 use crate::book::{Book, Claim, Curve};
 use crate::check::codes;
 use crate::dice::Dice;
-use crate::law::{due, horizon, lcm, pace, rank, sides, table, value, verdict, Break, Verdict};
+use crate::law::{horizon, lcm, pace, rank, table, value, verdict, Break, Verdict};
 use crate::make::one_claim;
 use crate::text::{hex, words};
 use std::cmp::Ordering;
@@ -61,6 +62,34 @@ fn summary(seen: &BTreeMap<(u8, u8), u64>) -> Result<String, String> {
     }
 }
 
+/// What h(n) is under "Claims".
+fn defined(kind: u8, f: &[i64], g: &[i64], n: usize) -> i64 {
+    if kind == 1 {
+        return f[n] + g[n];
+    }
+    if kind == 2 {
+        return if f[n] < g[n] { f[n] } else { g[n] };
+    }
+    let mut least = f[0] + g[n];
+    for u in 1..=n {
+        if f[u] + g[n - u] < least {
+            least = f[u] + g[n - u];
+        }
+    }
+    least
+}
+
+/// f(s), and what it may not exceed under "Claims".
+fn against(kind: u8, f: &Curve, g: &Curve, x: i64, s: i64) -> (i64, i64) {
+    let delay = kind == 4 || kind == 5;
+    let right = if delay {
+        value(g, s + x)
+    } else {
+        value(g, s) + x
+    };
+    (value(f, s), right)
+}
+
 /// The formula and the repeated rule give one curve.
 fn same_values(f: &Curve, values: &[i64]) -> bool {
     (0..values.len()).all(|n| value(f, n as i64) == values[n])
@@ -79,7 +108,7 @@ fn operation(book: &Book, claim: &Claim, verdict: &Verdict) -> Result<(), &'stat
         return Err("formula and rule differ");
     }
     let results: Vec<i64> = (0..fs.len())
-        .map(|n| due(claim.kind, &fs, &gs, n))
+        .map(|n| defined(claim.kind, &fs, &gs, n))
         .collect();
     gains(claim.kind, f, g, &results)?;
     let first = (0..results.len()).find(|n| results[*n] != hs[*n]);
@@ -117,6 +146,7 @@ fn bound(book: &Book, claim: &Claim, verdict: &Verdict) -> Result<(), &'static s
     let fails_below = claim.third == 0 || first(claim.third - 1).is_some();
     match verdict {
         Verdict::RefutedAt(named) if at_x != Some(*named) => Err("the first break is another one"),
+        Verdict::RefutedAt((s, _, _)) if *s >= horizon => Err("the tick named is not a tried one"),
         Verdict::RefutedAt(_) => Ok(()),
         Verdict::ByRate if at_x.is_some_and(|(s, _, _)| s < horizon) => {
             Err("a tick below the horizon breaks")
@@ -133,7 +163,7 @@ fn bound(book: &Book, claim: &Claim, verdict: &Verdict) -> Result<(), &'static s
 
 fn first_break(kind: u8, f: &Curve, g: &Curve, x: i64, last: i64) -> Option<Break> {
     for s in 0..=last {
-        let (left, right) = sides(kind, f, g, x, s);
+        let (left, right) = against(kind, f, g, x, s);
         if left > right {
             return Some((s, left, right));
         }
@@ -142,7 +172,7 @@ fn first_break(kind: u8, f: &Curve, g: &Curve, x: i64, last: i64) -> Option<Brea
 }
 
 fn gap(claim: &Claim, f: &Curve, g: &Curve, s: i64) -> i64 {
-    let (left, right) = sides(claim.kind, f, g, claim.third, s);
+    let (left, right) = against(claim.kind, f, g, claim.third, s);
     right - left
 }
 

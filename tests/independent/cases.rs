@@ -6,7 +6,7 @@
 use crate::book::read;
 use crate::dice::Dice;
 use crate::judge::{MOST_TICK, RECORD};
-use crate::make::{large_book, many_claims, small_book, unjudged_book};
+use crate::make::{crossing_book, large_book, many_claims, small_book, unjudged_book};
 use crate::spoil::{long_book, rubbish, spoil_bytes, spoil_fields, spoil_twice};
 use std::io::{self, Write};
 
@@ -60,10 +60,11 @@ fn torn(seed: u64, turn: u64) -> Vec<u8> {
 fn any_book(dice: &mut Dice) -> (&'static str, Vec<u8>) {
     match dice.below(1_000) {
         0..=2 => ("a horizon about 4,096", large_book(dice).bytes()),
-        3..=12 => ("a horizon above 4,096", unjudged_book(dice).bytes()),
-        13..=15 => ("many claims", many_claims(dice).bytes()),
-        16..=23 => ("long", long_book(dice)),
-        24..=59 => ("rubbish", rubbish(dice)),
+        3..=17 => ("a horizon above 4,096", unjudged_book(dice).bytes()),
+        18..=20 => ("many claims", many_claims(dice).bytes()),
+        21..=28 => ("long", long_book(dice)),
+        29..=43 => ("a crossing at the limit", crossing_book(dice).bytes()),
+        44..=59 => ("rubbish", rubbish(dice)),
         60..=139 => {
             let edges = dice.once_in(8);
             let book = small_book(dice, edges).bytes();

@@ -5,6 +5,7 @@
 //! small_book       one to four claims, with small or with edge curves
 //! many_claims      up to 256 claims over a few curves
 //! large_book       a horizon of 4,095 to 4,097
+//! crossing_book    a crossing N that decides whether the horizon is above 4,096
 //! unjudged_book    a horizon above 4,096, cheap for any judge
 //! one_claim        a book of one small claim of a given kind
 //! steep_triple     f, g and their convolution, with T+T'+2*2,021 as the horizon
@@ -338,7 +339,8 @@ fn late_pair(t: i64, d: i64, e: i64, pace: i64) -> (Curve, Curve) {
     (f, g)
 }
 
-/// The true result in one of its forms; none where no form is within the limits.
+/// The true result in one of its forms, or in one whose rank is too small and whose
+/// increment fits just there; none where that form is not within the limits.
 fn result(dice: &mut Dice, kind: u8, f: &Curve, g: &Curve) -> Option<Curve> {
     let r = rank(kind, f, g);
     let big_d = lcm(f.d, g.d);
@@ -350,7 +352,7 @@ fn result(dice: &mut Dice, kind: u8, f: &Curve, g: &Curve) -> Option<Curve> {
     let p = dice.pick(&[big_d, big_d, 2 * big_d, short.unwrap_or(big_d)]);
     let t = match dice.below(4) {
         0 => (0..r).find(|t| repeats(&values, *t, p)).unwrap_or(r),
-        1 => r + dice.below(4),
+        1 => (r + dice.between(-2, 3)).max(0),
         _ => r,
     };
     form(&values, t, p)
@@ -447,19 +449,22 @@ pub fn large_book(dice: &mut Dice) -> Book {
     shuffled(dice, book)
 }
 
-const COPRIME: [(i64, i64); 5] = [(61, 67), (63, 65), (63, 64), (59, 67), (61, 64)];
+const COPRIME: [(i64, i64); 4] = [(61, 67), (63, 65), (63, 64), (59, 67)];
 
-/// Lines of coprime periods; h is a line whose rank brings the horizon to the target.
+/// Lines of coprime periods; one of the three ranks brings the horizon to the target.
 fn far_lines(dice: &mut Dice, book: &mut Book, kind: u8, target: i64) {
     let (d, e) = dice.pick(&COPRIME);
+    let most = target - d * e;
+    let mut ranks = [0; 3].map(|_| dice.below(most + 1));
+    ranks[dice.index(3)] = most;
     let pace = dice.below(3);
-    let f = line(0, d, pace, dice.below(3));
-    let g = line(0, e, pace, dice.below(3));
+    let f = line(ranks[0], d, pace, dice.below(3));
+    let g = line(ranks[1], e, pace, dice.below(3));
     let (start, pace) = match kind {
         1 => (f.values[0] + g.values[0], 2 * pace),
         _ => (f.values[0].min(g.values[0]), pace),
     };
-    let mut h = line(target - d * e, 1, pace, start);
+    let mut h = line(ranks[2], 1, pace, start);
     if dice.once_in(2) {
         h = nearly(dice, h);
     }
@@ -496,6 +501,66 @@ fn far_crossing(dice: &mut Dice, book: &mut Book, kind: u8, target: i64) {
     } else {
         book.claim(kind, fast, slow, fast.into());
     }
+}
+
+/// A minimum or convolution of any small curves, the slower one raised from T on until
+/// the horizon is 4,096 or 4,097. The claim breaks at tick 0, so it is cheap if judged.
+pub fn crossing_book(dice: &mut Dice) -> Book {
+    loop {
+        let kind = dice.between(2, 3) as u8;
+        let (f, g, mut h) = (small_curve(dice), small_curve(dice), small_curve(dice));
+        // No value of f or g is 0, so h(0) = 0 is wrong.
+        h.values[0] = 0;
+        let mut g = raised(g, 0, 1);
+        // A steep rise after tick 0 makes that tick the lowest before T.
+        let (late, steep) = (f.t.min(1), dice.pick(&[0, 0, 30]));
+        let f = raised(raised(f, 0, 1), late, steep);
+        // At least one unit a tick faster, so that one unit more moves N by one at most.
+        g.c = (f.c / f.d + dice.between(2, 4)) * g.d + dice.below(g.d);
+        let target = dice.pick(&[MOST_HORIZON, MOST_HORIZON + 1]);
+        let at = |high: i64| crossing_claim(kind, &raised(f.clone(), f.t, high), &g, &h);
+        let far = |high: i64| horizon(&at(high), &at(high).claims[0]);
+        let high = least_from(0, 60_000, |high| far(high) >= target);
+        if far(high) != target {
+            continue;
+        }
+        let mut book = at(high);
+        if dice.once_in(2) {
+            (book.claims[0].left, book.claims[0].right) = (1, 0);
+        }
+        return book;
+    }
+}
+
+fn crossing_claim(kind: u8, f: &Curve, g: &Curve, h: &Curve) -> Book {
+    let mut book = Book {
+        curves: vec![f.clone(), g.clone(), h.clone()],
+        claims: vec![],
+    };
+    book.claim(kind, 0, 1, 2);
+    book
+}
+
+/// The values from `from` on, higher by `by`.
+fn raised(mut f: Curve, from: i64, by: i64) -> Curve {
+    for v in &mut f.values[from as usize..] {
+        *v += by;
+    }
+    f
+}
+
+/// The least number of low..=high that is enough, where more is enough as well.
+fn least_from(low: i64, high: i64, enough: impl Fn(i64) -> bool) -> i64 {
+    let (mut low, mut high) = (low, high);
+    while low < high {
+        let middle = (low + high) / 2;
+        if enough(middle) {
+            high = middle;
+        } else {
+            low = middle + 1;
+        }
+    }
+    low
 }
 
 fn far_bound(dice: &mut Dice, book: &mut Book, kind: u8, target: i64) {
@@ -536,15 +601,18 @@ fn curve_of(t: i64, d: i64, f: impl Fn(i64) -> i64) -> Curve {
     }
 }
 
-/// Lines with long periods, or a far crossing, so that the horizon is above 4,096.
+/// Lines with long periods, or with a crossing so far that its terms need more than
+/// 32 bits; the horizon is above 4,096.
 pub fn unjudged_book(dice: &mut Dice) -> Book {
     loop {
         let mut book = Book::default();
         for _ in 0..3 {
             let t = dice.below(60);
-            let d = dice.between(20, 190);
-            let (pace, start) = (dice.below(3), dice.below(2_000));
-            book.add(line(t, d, pace, start));
+            let any = dice.between(20, 190);
+            let d = dice.pick(&[any, any, 64, 128]);
+            let low = dice.below(2_000);
+            let start = dice.pick(&[low, low, MOST_UNITS - 1_000]);
+            book.add(line(t, d, dice.below(3), start));
         }
         for _ in 0..dice.between(1, 4) {
             let mut number = || dice.below(3) as u8;
