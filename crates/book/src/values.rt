@@ -33,9 +33,8 @@ pub fn value_in(book: &[u8], curve: u64, tick: u64) -> Asked
     Asked::Value(value_at(f.rank, f.period, f.increment, &f.listed, Ticks(tick as u32)))
 }
 
-// For C: a struct of two numbers, of which the first is the refusal's number + 2^8 * its place, 0 where there is a value.
-#[no_mangle]
-pub extern "C" fn curve_value(book: &[u8], curve: u64, tick: u64) -> CurveValue
+// The same as two numbers: the refusal's number + 2^8 * its place, 0 where there is a value, and the value.
+pub fn curve_value(book: &[u8], curve: u64, tick: u64) -> CurveValue
     ensures { λ r. ⌜ r ≡ told (valueAsked (now (book .entry)) curve tick) ⌝ }
 {
     let asked = value_in(book, curve, tick);

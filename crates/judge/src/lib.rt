@@ -1,7 +1,10 @@
 // The run over a book: a verdict on each claim, written as records into lent bytes, and the refusal or the totals as one number.
 ghost use mathlib.Core.Path.{_≡_};
+ghost use Rattle.book.specs.Values.{valueAsked, told};
 ghost use Rattle.judge.specs.Run.{answerOf, bufferOf};
+use book::CurveValue;
 use book::Outcome;
+use book::values;
 use book::whole::read;
 use field::Refusal;
 
@@ -43,4 +46,12 @@ pub extern "C" fn judge(book: &[u8], verdicts: &mut [u8]) -> u64
         return refused(Refusal::NoRoom, 0);
     }
     totals_word(run(book, sound, verdicts))
+}
+
+// For C: a curve's value at a tick, asked of a book.
+#[no_mangle]
+pub extern "C" fn curve_value(book: &[u8], curve: u64, tick: u64) -> CurveValue
+    ensures { λ r. ⌜ r ≡ told (valueAsked (now (book .entry)) curve tick) ⌝ }
+{
+    values::curve_value(book, curve, tick)
 }
