@@ -36,8 +36,9 @@ use Rattle.book.specs.Reading.{Contents, sound, readBook}
 use Rattle.book.specs.Held.{bookOf, placesOf}
 use Rattle.book.specs.Sound.{SoundBook, sound-book}
 use Rattle.judge.specs.declared.Totals.{Totals}
+use Rattle.judge.specs.Answer.{recordSize}
 use Rattle.judge.specs.Claims.{curveNamed, claimOn, verdictIn, StandsOver, stands-over, claim-well, stands-array, verdict-array}
-use Rattle.judge.specs.Records.{recordSize, recordBytes, recordsTo, length-records, records-more}
+use Rattle.judge.specs.Records.{recordBytes, recordsTo, length-records, records-more}
 use Rattle.judge.specs.Totals.{Countable, totalsTo, counted, totals-more, totals-add-up}
 use Rattle.judge.specs.Run.{verdictAt, recordAt, codeAt, totalsOn, bufferOn}
 

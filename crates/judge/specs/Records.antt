@@ -1,6 +1,6 @@
 -- The records as bytes. Document 01, 'Verdicts': "A record is 21 bytes: code, tick (4 bytes), left value (8), right value (8), high byte first."
 --
---     recordSize, recordBytes     a record's bytes; length-record: there are 21
+--     recordBytes                 a record's bytes; length-record: there are 21
 --     recordsTo f n               those of f(0) to f(n-1), one after the other; length-records: 21 each
 use Prim.Native.Nat.{ℕ, zero, suc, _+_, _*_, _≤_}
 use mathlib.Core.Path.{_≡_, refl, _∙_}
@@ -9,10 +9,8 @@ use native.Mathlib.Omega.{arith}
 use native.Mathlib.Numerals.{add-one}
 use lib.ListN.{length, length-append}
 use Rattle.minplus.specs.Verdict.{Record}
+use Rattle.judge.specs.Answer.{recordSize}
 use Rattle.numbers.specs.Put.{put, putWhole, bytesOf, length-bytes, length-put, put-fits, put-put}
-
-abbrev pub recordSize : ℕ
-recordSize = 21
 
 unfoldable pub recordBytes : Record → List ℕ
 unfolding bytesOf

@@ -18,11 +18,12 @@ use Rattle.minplus.specs.Verdict.{Record, Verdict, recordOf}
 use Rattle.numbers.specs.Put.{put}
 use Rattle.field.specs.declared.Refusal.{Refusal}
 use Rattle.field.specs.declared.Refusal.the-variants.{NoRoom}
+use Rattle.field.specs.Refusals.{numberOf}
 use Rattle.book.specs.Reading.{Contents, Read, sound, refused, readBook}
-use Rattle.book.specs.Values.{refusalWord}
 use Rattle.judge.specs.declared.Totals.{Totals}
 use Rattle.judge.specs.Claims.{verdictIn}
-use Rattle.judge.specs.Records.{recordSize, recordsTo}
+use Rattle.judge.specs.Answer.{answerWith, recordSize}
+use Rattle.judge.specs.Records.{recordsTo}
 use Rattle.judge.specs.Totals.{totalsTo, totalsWord}
 
 unfoldable pub verdictAt : List ℕ → Contents → ℕ → Verdict
@@ -49,9 +50,12 @@ unfolding totalsTo verdictAt recordOf
 totalsOn s (refused x p) = record { accepted = 0; refuted = 0; unjudged = 0 }
 totalsOn s (sound c) = totalsTo (codeAt s c) (length (c .claims))
 
+abbrev pub refusedWord : Refusal → ℕ → ℕ
+refusedWord x p = answerWith (numberOf x) p 0 0 0
+
 unfoldable pub answerOn : List ℕ → Read → ℕ
 unfolding totalsOn
-answerOn s (refused x p) = refusalWord x p
+answerOn s (refused x p) = refusedWord x p
 answerOn s (sound c) = totalsWord (totalsOn s (sound c))
 
 unfoldable pub bufferOn : List ℕ → List ℕ → Read → List ℕ
@@ -74,12 +78,12 @@ abbrev pub Room : List ℕ → Contents → Type 0
 Room b c = recordSize * length (c .claims) ≤ length b
 
 module _ (s b : List ℕ) where
-  pub run-refused : (x : Refusal) (p : ℕ) → readBook s ≡ refused x p → (answerOf s b ≡ refusalWord x p) × (bufferOf s b ≡ b)
+  pub run-refused : (x : Refusal) (p : ℕ) → readBook s ≡ refused x p → (answerOf s b ≡ refusedWord x p) × (bufferOf s b ≡ b)
   unfolding answerOf bufferOf
   run-refused x p e = let so : admitted s (length b) ≡ refused x p = rw e in (ap (answerOn s) so, ap (bufferOn s b) so)
 
   module _ (c : Contents) (e : readBook s ≡ sound c) where
-    pub run-short : length b < recordSize * length (c .claims) → (answerOf s b ≡ refusalWord NoRoom 0) × (bufferOf s b ≡ b)
+    pub run-short : length b < recordSize * length (c .claims) → (answerOf s b ≡ refusedWord NoRoom 0) × (bufferOf s b ≡ b)
     unfolding answerOf bufferOf
     run-short short = let so : admitted s (length b) ≡ refused NoRoom 0 = rw (e, lt-ltb _ _ short, admittedOn) in (ap (answerOn s) so, ap (bufferOn s b) so)
 

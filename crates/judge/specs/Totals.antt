@@ -1,21 +1,22 @@
 -- The totals. Document 01, 'Verdicts': "Totals: accepted, refuted and not judged add up to the claims counted in the book. Each is the number of records with its codes: 1 accepted;
--- 2, 3 and 4 refuted; 5 not judged. "Certified" is yes exactly when there is at least one claim and all are accepted."
+-- 2, 3 and 4 refuted; 5 not judged."
 --
 --     isAccepted, isRefuted, isUnjudged     the codes of each
 --     countTo p codes n       how many of codes(0) to codes(n-1) are such
 --     totalsTo codes n        the three totals over them; counted: with one code more
---     certified               over the totals
---     totalsWord              as a part of the answer
+--     together                their sum
+--     totalsWord              as an answer
 --     totals-add-up           of verdicts they add up
-use Prim.Native.Nat.{ℕ, zero, suc, _+_, _*_, _≤_}
+use Prim.Native.Nat.{ℕ, zero, suc, _+_, _≤_}
 use mathlib.Core.Path.{_≡_, refl}
-use mathlib.Core.Bool.{Bool, true, false, _&&_, _||_}
+use mathlib.Core.Bool.{Bool, true, false, _||_}
 use native.Mathlib.Omega.{arith}
 use native.Mathlib.Numerals.{add-one}
-use lib.Dec.{ltb, eqb}
+use lib.Dec.{eqb}
 use Rattle.minplus.specs.Verdict.{Verdict, accepted, refutedAt, refutedByRate, notLeast, notJudged, recordOf}
 use Rattle.field.specs.Refusals.{maxClaims}
 use Rattle.judge.specs.declared.Totals.{Totals}
+use Rattle.judge.specs.Answer.{answerWith}
 
 abbrev pub isAccepted : ℕ → Bool
 isAccepted code = eqb code 1
@@ -39,15 +40,12 @@ unfoldable pub totalsTo : (ℕ → ℕ) → ℕ → Totals
 unfolding countTo
 totalsTo codes n = record { accepted = countTo isAccepted codes n; refuted = countTo isRefuted codes n; unjudged = countTo isUnjudged codes n }
 
-abbrev pub claimsIn : Totals → ℕ
-claimsIn t = t .accepted + t .refuted + t .unjudged
+abbrev pub together : Totals → ℕ
+together t = t .accepted + t .refuted + t .unjudged
 
-unfoldable pub certified : Totals → Bool
-certified t = ltb 0 (claimsIn t) && eqb (t .accepted) (claimsIn t)
-
--- "2^24 * accepted + 2^36 * refuted + 2^48 * not judged"
+-- as the answer on a sound book
 abbrev pub totalsWord : Totals → ℕ
-totalsWord t = 16777216 * t .accepted + 68719476736 * t .refuted + 281474976710656 * t .unjudged
+totalsWord t = answerWith 0 0 (t .accepted) (t .refuted) (t .unjudged)
 
 -- the totals with one record more
 unfoldable pub counted : Totals → ℕ → Totals
@@ -59,7 +57,7 @@ counted t code = record {
 
 -- of no more claims than a book may have
 pub record Countable (t : Totals) : Type 0 where
-  pub few : claimsIn t ≤ maxClaims
+  pub few : together t ≤ maxClaims
 
 -- ---- laws
 
@@ -67,7 +65,7 @@ pub totals-more : (codes : ℕ → ℕ) (n : ℕ) → counted (totalsTo codes n)
 unfolding counted totalsTo
 totals-more codes n = rw (add-one n)
 
-pub totals-add-up : (f : ℕ → Verdict) (n : ℕ) → claimsIn (totalsTo (λ k. recordOf (f k) .code) n) ≡ n
+pub totals-add-up : (f : ℕ → Verdict) (n : ℕ) → together (totalsTo (λ k. recordOf (f k) .code) n) ≡ n
 unfolding totalsTo recordOf
 totals-add-up f zero = refl
 totals-add-up f (suc n) = go (f n) _ _ _ (totals-add-up f n)

@@ -2,14 +2,14 @@
 ghost use mathlib.Core.Path.{_≡_};
 ghost use Prim.Native.Nat.{_≤_};
 ghost use Rattle.book.specs.Reading.{maxBytes};
-ghost use Rattle.book.specs.Values.{refusalWord};
+ghost use Rattle.judge.specs.Run.{refusedWord};
 ghost use Rattle.judge.specs.Totals.{totalsWord, Countable, counted};
 use crate::Totals;
 use field::Refusal;
 
 pub(crate) fn refused(refusal: Refusal, place: usize) -> u64
     requires { ⌜ place ≤ maxBytes ⌝ }
-    ensures { λ r. ⌜ r ≡ refusalWord refusal place ⌝ }
+    ensures { λ r. ⌜ r ≡ refusedWord refusal place ⌝ }
 {
     refusal.number() as u64 + 256 * place as u64
 }
