@@ -5,4 +5,6 @@ pub mod Claims
 pub mod Records
 pub mod Totals
 pub mod Run
+pub mod Readback
+pub mod Inspector
 pub mod Held

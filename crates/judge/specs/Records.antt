@@ -23,7 +23,7 @@ recordsTo f (suc n) = recordsTo f n ++ recordBytes (f n)
 
 -- ---- laws
 
-record-parts : (r : Record) → recordBytes r ≡ ((bytesOf 1 (r .code) ++ bytesOf 4 (r .tick)) ++ bytesOf 8 (r .left)) ++ bytesOf 8 (r .right)
+pub record-parts : (r : Record) → recordBytes r ≡ ((bytesOf 1 (r .code) ++ bytesOf 4 (r .tick)) ++ bytesOf 8 (r .left)) ++ bytesOf 8 (r .right)
 unfolding recordBytes
 record-parts r = refl
 

@@ -4,7 +4,8 @@
 --     putWhole s at t     the same where all of t has room, else s as it was
 --     bytesOf w n         the w bytes of a number, high byte first; of a larger number its last w
 --     bytes-back          read again they are the number; length-bytes: they are w; put-bytes: written from the last one on
---     put-nothing, put-last, put-put, length-put     nothing, one byte more, one after the other, and as many bytes as before
+--     put-nothing, put-last, put-put     nothing, one byte more, one after the other
+--     length-put, drop-put               as many bytes as before, and those after it as they were
 use Prim.Native.Nat.{ℕ, zero, suc, _+_, _-_, _^_, _/_, _%_, _≤_, _<_}
 use mathlib.Core.Path.{_≡_, refl, sym, ap, _∙_}
 use mathlib.Core.Bool.{true, false}
@@ -53,6 +54,10 @@ module _ (s : List ℕ) (at : ℕ) (t : List ℕ) where
   length-put fits =
       length-append (take at s ++ t) (drop (at + length t) s)
       ∙ rw (head (omega (arith, fits)), length-drop (at + length t) s) (omega (arith, fits))
+
+  pub drop-put : at + length t ≤ length s → drop (at + length t) (put s at t) ≡ drop (at + length t) s
+  unfolding put
+  drop-put fits = drop-at (take at s ++ t) (drop (at + length t) s) (at + length t) (head (omega (arith, fits)))
 
   -- the last byte may be written first
   pub put-last : (b : ℕ) → at + length t < length s → put s at (t ++ (b ∷ [])) ≡ put (set s (at + length t) b) at t

@@ -1,0 +1,292 @@
+-- For an inspector: what an answer and a verdict buffer say of a book, for any bytes.
+--
+-- `judge` answers answerOf s b on a book of the bytes s with a lent buffer b, and leaves bufferOf s b there. Whatever the bytes, the answer is one of two:
+--
+--     Refused s b a after     a refusal: document 01's number and place, no totals, and every byte of the buffer as it was
+--     Judged s b a after      the book is sound, there is a record for each claim, the totals count the records, and the rest of the buffer is as it was;
+--                             each record is on its claim (ClaimJudged) and says of it, code by code, what is so at every tick, without end (Says)
+--     inspected               for any s and b
+--     accepted-convolution    for the code 1 of kind 3 spelled out: h(n) is the least f(u)+g(n-u), at every n
+--     inspected-w8            W8 is such a book
+use Prim.Native.Nat.{ℕ, zero, suc, _+_, _*_, _≤_, _<_, _^_}
+use mathlib.Core.Path.{_≡_, refl, sym, ap, subst, _∙_}
+use mathlib.Core.Bool.{Bool, true, false}
+use mathlib.Core.List.{List, [], _∷_, _++_}
+use mathlib.Core.Logic.{_↔_, _⊎_, inl, inr}
+use native.Mathlib.Omega.{arith}
+use lib.ListN.{length, getD, drop, replicate}
+use lib.Dec.{ltb, eqb}
+use borrow.Author.Tests.{ltb-false}
+use Rattle.minplus.specs.Curve.{Curve, value}
+use Rattle.minplus.specs.Claim.{kindBy, Claim, Claimed, WellFormedClaim, equals, convolution, due}
+use Rattle.minplus.specs.Conv.{conv, conv-below, conv-attained}
+use Rattle.minplus.specs.Horizon.{horizon, maxHorizon}
+use Rattle.minplus.specs.Verdict.{Record, Verdict, accepted, refutedAt, refutedByRate, notLeast, notJudged, recordOf, verdict, leftAt, rightAt, tried}
+use Rattle.minplus.specs.Meaning.{Meaning, Rule, Loose, well-formed-proper}
+use Rattle.minplus.specs.Exact.{verdict-exact, accepted-exactly}
+use Rattle.curve.specs.Filled.{listOf}
+use Rattle.field.specs.declared.Refusal.{Refusal}
+use Rattle.field.specs.declared.Refusal.the-variants.{Torn, UnknownTag, OutOfOrder, TooMany, WrongVersion, CurveLength, CurvePeriod, TooManyUnits, CurveFalls, WrongClaim, NoSuchCurve, TooLarge, WrongEnd, NoRoom, BookTooLong}
+use Rattle.field.specs.declared.Stated.{Stated}
+use Rattle.field.specs.declared.ClaimField.the-variants as claim-field
+use Rattle.field.specs.Layout.{tagBy, contentAt}
+use Rattle.field.specs.Refusals.{maxClaims, numberOf, claimField}
+use Rattle.book.specs.Reading.{Contents, Read, sound, refused, maxBytes, readBook}
+use Rattle.book.specs.Ground.{w8}
+use Rattle.book.specs.Sound.{sound-book, refused-inside}
+use Rattle.numbers.specs.Numbers.{numberAt}
+use Rattle.numbers.specs.Put.{put, length-put, drop-put}
+use Rattle.judge.specs.Answer.{answer-parts, refusalIn, placeIn, acceptedIn, refutedIn, unjudgedIn, claimsIn, recordSize, codeIn, recordIn}
+use Rattle.judge.specs.Claims.{claimOn, stands-over, claim-well, verdict-stands}
+use Rattle.judge.specs.Records.{recordsTo, length-records}
+use Rattle.judge.specs.Totals.{isAccepted, isRefuted, isUnjudged, countTo, totalsTo, together, totalsWord, totals-add-up}
+use Rattle.judge.specs.Run.{Room, verdictAt, recordAt, codeAt, admittedOn, admitted, refusedWord, answerOn, bufferOn, answerOf, bufferOf}
+use Rattle.judge.specs.Readback.{Fits, record-fits, records-back}
+
+-- what a record says of its claim
+pub record Says (c : Claim) (r : Record) : Type 0 where
+  pub code-known : (1 ≤ r .code) × (r .code ≤ 5)
+  -- accepted: exactly when the horizon is within the limit and what document 01's table says of the kind holds at every tick
+  pub code-1 : (r .code ≡ 1) ↔ ((horizon c ≤ maxHorizon) × Claimed c)
+  -- refuted at a tick: exactly when the named tick is the first that breaks the rule, and a tried one, and both values are the values there
+  pub code-2 : (r .code ≡ 2)
+      ↔ ((horizon c ≤ maxHorizon) × (r .tick < tried c) × ((m : ℕ) → m < r .tick → Rule c m) × (¬ (Rule c (r .tick))) × (r .left ≡ leftAt c (r .tick)) × (r .right ≡ rightAt c (r .tick)))
+  -- refuted by rate: exactly when no tried tick breaks the rule, and some later one does
+  pub code-3 : (r .code ≡ 3) ↔ ((horizon c ≤ maxHorizon) × ((n : ℕ) → n < tried c → Rule c n) × ((n : ℕ) × (¬ (Rule c n))))
+  -- refuted, not least: exactly when X is a bound at every tick, and X > 0 and X-1 is one too
+  pub code-4 : (r .code ≡ 4) ↔ ((horizon c ≤ maxHorizon) × ((n : ℕ) → Rule c n) × Loose c)
+  -- not judged: exactly when the horizon is above the limit
+  pub code-5 : (r .code ≡ 5) ↔ (maxHorizon < horizon c)
+  -- "For other codes the twenty bytes are 0."
+  pub else-zero : ¬ (r .code ≡ 2) → (r .tick ≡ 0) × (r .left ≡ 0) × (r .right ≡ 0)
+
+-- claim k of a sound book: what its field states of the book's curves
+abbrev pub IsClaim : List ℕ → Contents → ℕ → Claim → Type 0
+IsClaim s c k claim =
+    (st : Stated) × (claimField (length (c .curves)) (contentAt s (getD (c .claims) k 0)) ≡ claim-field.Stated st) × (claim ≡ claimOn s (c .curves) st)
+
+pub record ClaimJudged (s : List ℕ) (c : Contents) (k : ℕ) (r : Record) : Type 0 where
+  pub claim : Claim
+  pub is-claim : IsClaim s c k claim
+  pub well-formed : WellFormedClaim claim
+  pub says : Says claim r
+
+pub record Judged (s b : List ℕ) (a : ℕ) (after : List ℕ) : Type 0 where
+  pub contents : Contents
+  pub book-sound : readBook s ≡ sound contents
+  pub room : recordSize * length (contents .claims) ≤ length b
+  pub no-refusal : (refusalIn a ≡ 0) × (placeIn a ≡ 0)
+  -- the totals are counts over the records in the buffer, and add up
+  pub accepted-count : acceptedIn a ≡ countTo isAccepted (codeIn after) (length (contents .claims))
+  pub refuted-count : refutedIn a ≡ countTo isRefuted (codeIn after) (length (contents .claims))
+  pub unjudged-count : unjudgedIn a ≡ countTo isUnjudged (codeIn after) (length (contents .claims))
+  pub add-up : claimsIn a ≡ length (contents .claims)
+  pub each-claim : (k : ℕ) → k < length (contents .claims) → ClaimJudged s contents k (recordIn after k)
+  -- "the first 21 bytes per claim are written and the rest stays"
+  pub same-length : length after ≡ length b
+  pub rest-stays : drop (recordSize * length (contents .claims)) after ≡ drop (recordSize * length (contents .claims)) b
+
+pub record Refused (s b : List ℕ) (a : ℕ) (after : List ℕ) : Type 0 where
+  pub refusal : Refusal
+  pub place : ℕ
+  pub book-refused : admitted s (length b) ≡ refused refusal place
+  pub number-and-place : (refusalIn a ≡ numberOf refusal) × (placeIn a ≡ place)
+  pub is-refusal : ¬ (refusalIn a ≡ 0)
+  pub no-totals : (acceptedIn a ≡ 0) × (refutedIn a ≡ 0) × (unjudgedIn a ≡ 0)
+  pub nothing-written : after ≡ b
+
+-- ---- laws
+
+-- the verdict of a record
+verdictBy : ℕ → Record → Verdict
+verdictBy code r =
+    elim (eqb code 1) [
+      | true ↦ accepted
+      | false ↦
+          elim (eqb code 2) [
+            | true ↦ refutedAt (r .tick) (r .left) (r .right)
+            | false ↦ elim (eqb code 3) [ true ↦ refutedByRate | false ↦ elim (eqb code 4) [ true ↦ notLeast | false ↦ notJudged ] ]
+          ]
+    ]
+
+verdict-by : (v : Verdict) → v ≡ verdictBy (recordOf v .code) (recordOf v)
+unfolding verdictBy recordOf
+verdict-by accepted = refl
+verdict-by (refutedAt tick left right) = refl
+verdict-by refutedByRate = refl
+verdict-by notLeast = refl
+verdict-by notJudged = refl
+
+-- a record's code is exactly its verdict's
+by-code : (v : Verdict) (k : ℕ) → recordOf v .code ≡ k → v ≡ verdictBy k (recordOf v)
+by-code v k e = verdict-by v ∙ ap (λ (j : ℕ). verdictBy j (recordOf v)) e
+
+module _ (c : Claim) (well : WellFormedClaim c) where
+  abbrev r : Record
+  r = recordOf (verdict c)
+
+  meant : (k : ℕ) → (v : Verdict) → v ≡ verdictBy k r → recordOf v .code ≡ k → (r .code ≡ k) ↔ Meaning c v
+  meant k v is code =
+      let exact = verdict-exact c (well-formed-proper c well) v in
+      (λ e. exact .0 (by-code (verdict c) k e ∙ sym is), λ m. ap (λ (w : Verdict). recordOf w .code) (exact .1 m) ∙ code)
+
+  pub verdict-says : Says c r
+  unfolding verdictBy recordOf
+  verdict-says = record {
+    code-known = known (verdict c);
+    code-1 =
+        let exact = accepted-exactly c (well-formed-proper c well) in
+        (λ e. exact .0 (by-code (verdict c) 1 e), λ m. ap (λ (w : Verdict). recordOf w .code) (exact .1 m));
+    code-2 = meant 2 (refutedAt (r .tick) (r .left) (r .right)) refl refl;
+    code-3 = meant 3 refutedByRate refl refl;
+    code-4 = meant 4 notLeast refl refl;
+    code-5 = meant 5 notJudged refl refl;
+    else-zero = zeros (verdict c);
+  }
+    where
+      known : (v : Verdict) → (1 ≤ recordOf v .code) × (recordOf v .code ≤ 5)
+      known accepted = (omega arith, omega arith)
+      known (refutedAt tick left right) = (omega arith, omega arith)
+      known refutedByRate = (omega arith, omega arith)
+      known notLeast = (omega arith, omega arith)
+      known notJudged = (omega arith, omega arith)
+
+      zeros : (v : Verdict) → ¬ (recordOf v .code ≡ 2) → (recordOf v .tick ≡ 0) × (recordOf v .left ≡ 0) × (recordOf v .right ≡ 0)
+      zeros accepted other = (refl, refl, refl)
+      zeros (refutedAt tick left right) other = absurd (other refl)
+      zeros refutedByRate other = (refl, refl, refl)
+      zeros notLeast other = (refl, refl, refl)
+      zeros notJudged other = (refl, refl, refl)
+
+-- a book is refused by one of document 01's numbers, at a place that fits the answer
+number-fits : (x : Refusal) → (1 ≤ numberOf x) × (numberOf x ≤ 15)
+unfolding numberOf
+number-fits Torn = (omega arith, omega arith)
+number-fits UnknownTag = (omega arith, omega arith)
+number-fits OutOfOrder = (omega arith, omega arith)
+number-fits TooMany = (omega arith, omega arith)
+number-fits WrongVersion = (omega arith, omega arith)
+number-fits CurveLength = (omega arith, omega arith)
+number-fits CurvePeriod = (omega arith, omega arith)
+number-fits TooManyUnits = (omega arith, omega arith)
+number-fits CurveFalls = (omega arith, omega arith)
+number-fits WrongClaim = (omega arith, omega arith)
+number-fits NoSuchCurve = (omega arith, omega arith)
+number-fits TooLarge = (omega arith, omega arith)
+number-fits WrongEnd = (omega arith, omega arith)
+number-fits NoRoom = (omega arith, omega arith)
+number-fits BookTooLong = (omega arith, omega arith)
+
+-- what a buffer admits
+module _ (s b : List ℕ) where
+  Admits : Read → Type 0
+  Admits (refused x p) = p ≤ maxBytes
+  Admits (sound c) = (readBook s ≡ sound c) × Room b c
+
+  admits : Admits (admitted s (length b))
+  unfolding admitted Admits
+  admits = go (readBook s) refl
+    where
+      go : (r : Read) → readBook s ≡ r → Admits (admittedOn r (length b))
+      go (refused x p) e = refused-inside s x p e .1
+      go (sound c) e = room (ltb (length b) (recordSize * length (c .claims))) refl
+        where
+          room : (t : Bool) → ltb (length b) (recordSize * length (c .claims)) ≡ t → Admits (elim t as (λ _. Read) [ true ↦ refused NoRoom 0 | false ↦ sound c ])
+          room true short = omega arith
+          room false enough = (e, ltb-false _ _ enough)
+
+count-same : (p : ℕ → Bool) (f g : ℕ → ℕ) (n : ℕ) → ((k : ℕ) → k < n → f k ≡ g k) → countTo p f n ≡ countTo p g n
+unfolding countTo
+count-same p f g zero same = refl
+count-same p f g (suc n) same = rw (count-same p f g n (λ k lt. same k (omega arith)), same n (omega arith))
+
+module _ (s b : List ℕ) (c : Contents) (so : readBook s ≡ sound c) (room : Room b c) where
+  abbrev claims : ℕ
+  claims = length (c .claims)
+
+  abbrev after : List ℕ
+  after = put b 0 (recordsTo (recordAt s c) claims)
+
+  claim-judged : (k : ℕ) → k < claims → ClaimJudged s c k (recordAt s c k) × Fits (recordAt s c k)
+  unfolding verdictAt
+  claim-judged k lt =
+      let over = stands-over s c (sound-book s c so) k lt in
+      let claim : Claim = claimOn s (c .curves) (over .stands .stated) in
+      let well : WellFormedClaim claim = claim-well over in
+      let is : recordOf (verdict claim) ≡ recordAt s c k = ap recordOf (sym (verdict-stands over)) in (
+        record {
+          claim = claim;
+          is-claim = (over .stands .stated, over .stands .so, refl);
+          well-formed = well;
+          says = subst (Says claim) is (verdict-says claim well);
+        },
+        subst Fits is (record-fits claim well),
+      )
+
+  back : (k : ℕ) → k < claims → recordIn after k ≡ recordAt s c k
+  back k lt = records-back b (recordAt s c) claims k lt (claim-judged k lt .1)
+
+  counts : (p : ℕ → Bool) → countTo p (codeAt s c) claims ≡ countTo p (codeIn after) claims
+  counts p = count-same p (codeAt s c) (codeIn after) claims (λ k lt. ap (λ (r : Record). r .code) (sym (back k lt)))
+
+  is-judged : Judged s b (totalsWord (totalsTo (codeAt s c) claims)) after
+  unfolding totalsTo
+  is-judged =
+      let t = totalsTo (codeAt s c) claims in
+      let all : together t ≡ claims = totals-add-up (verdictAt s c) claims in
+      let few : claims ≤ maxClaims = sound-book s c so .claims-fit in
+      let size : length (recordsTo (recordAt s c) claims) ≡ recordSize * claims = length-records (recordAt s c) claims in
+      let end : 0 + length (recordsTo (recordAt s c) claims) ≡ recordSize * claims = omega (arith, size) in
+      let parts = answer-parts 0 0 (t .accepted) (t .refuted) (t .unjudged) (omega arith) (omega arith) (omega (arith, all, few)) (omega (arith, all, few)) in
+      record {
+        contents = c;
+        book-sound = so;
+        room = room;
+        no-refusal = (parts .0, parts .1);
+        accepted-count = parts .2 ∙ counts isAccepted;
+        refuted-count = parts .3 ∙ counts isRefuted;
+        unjudged-count = parts .4 ∙ counts isUnjudged;
+        add-up = rw (parts .2, parts .3, parts .4) all;
+        each-claim = λ k lt. subst (ClaimJudged s c k) (sym (back k lt)) (claim-judged k lt .0);
+        same-length = length-put b 0 (recordsTo (recordAt s c) claims) (omega (arith, size, room));
+        rest-stays = rw end at (drop-put b 0 (recordsTo (recordAt s c) claims) (omega (arith, size, room)));
+      }
+
+module _ (s b : List ℕ) where
+  is-refused : (x : Refusal) (p : ℕ) → admitted s (length b) ≡ refused x p → p ≤ maxBytes → Refused s b (refusedWord x p) b
+  is-refused x p e near =
+      let fits = number-fits x in
+      let parts = answer-parts (numberOf x) p 0 0 0 (omega (arith, fits .1)) (omega (arith, near)) (omega arith) (omega arith) in
+      record {
+        refusal = x;
+        place = p;
+        book-refused = e;
+        number-and-place = (parts .0, parts .1);
+        is-refusal = λ none. omega (arith, none, parts .0, fits .0);
+        no-totals = (parts .2, parts .3, parts .4);
+        nothing-written = refl;
+      }
+
+  pub inspected : Judged s b (answerOf s b) (bufferOf s b) ⊎ Refused s b (answerOf s b) (bufferOf s b)
+  unfolding answerOf bufferOf Admits
+  inspected = go (admitted s (length b)) refl (admits s b)
+    where
+      go : (r : Read) → admitted s (length b) ≡ r → Admits s b r → Judged s b (answerOn s r) (bufferOn s b r) ⊎ Refused s b (answerOn s r) (bufferOn s b r)
+      go (sound c) e (so, room) = inl (is-judged s b c so room)
+      go (refused x p) e near = inr (is-refused x p e near)
+
+-- kind 3, accepted: h(n) is the least f(u)+g(n-u), at every n
+pub accepted-convolution : {s : List ℕ} {c : Contents} {k : ℕ} {r : Record} → (judged : ClaimJudged s c k r) → (f g h : Curve) → judged .claim ≡ equals convolution f g h
+    → r .code ≡ 1 → (n : ℕ)
+    → ((u v : ℕ) → u + v ≡ n → value h n ≤ value f u + value g v) × ((u : ℕ) × (v : ℕ) × (u + v ≡ n) × (value h n ≡ value f u + value g v))
+unfolding due
+accepted-convolution {r = r} judged f g h is code n =
+    let says : Says (equals convolution f g h) r = subst (λ (x : Claim). Says x r) is (judged .says) in
+    let equal : value h n ≡ conv (value f) (value g) n = says .code-1 .0 code .1 n in
+    let least = conv-attained (value f) (value g) n in
+    (λ u v e. rw equal (conv-below (value f) (value g) n u v e), (least .0, least .1, least .2, equal ∙ least .3))
+
+-- W8 with a buffer of 24 bytes: accepted, and the last three stay
+pub inspected-w8 : (answerOf w8 (replicate 24 7) ≡ 2 ^ 24) × (bufferOf w8 (replicate 24 7) ≡ 1 ∷ (replicate 20 0 ++ replicate 3 7))
+unfolding answerOf bufferOf w8 tagBy kindBy numberAt listOf
+inspected-w8 = (refl, refl)

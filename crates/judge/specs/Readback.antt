@@ -1,0 +1,122 @@
+-- The written records, read from the buffer's bytes again.
+--
+--     Fits                a record whose numbers fit their bytes: of a well-formed claim it is one (record-fits)
+--     number-middle       a number that stands in the middle of a list
+--     records-back        record k of the buffer is the record that was written there
+use Prim.Native.Nat.{ℕ, zero, suc, _+_, _*_, _^_, _≤_, _<_, min}
+use mathlib.Core.Path.{_≡_, refl, sym, ap, _∙_}
+use mathlib.Core.List.{List, [], _++_, append-assoc, append-nil}
+use mathlib.Core.Logic.{_⊎_, inl, inr}
+use native.Mathlib.Omega.{arith}
+use native.Mathlib.Nat.{eq-or-lt-of-le, le-of-suc-le-suc}
+use lib.ListN.{length, take, drop, length-append}
+use lib.Seq.{take-at, drop-at}
+use Rattle.minplus.specs.Curve.{Curve, WellFormed, value, value-at-most}
+use Rattle.minplus.specs.Claim.{Claim, Operation, Deviation, WellFormedClaim, equals, bounds, sum, minimum, convolution, delay, backlog, due, allowed}
+use Rattle.minplus.specs.Conv.{conv, conv-below}
+use Rattle.minplus.specs.Horizon.{horizon, maxHorizon}
+use Rattle.minplus.specs.Verdict.{Record, Verdict, accepted, refutedAt, refutedByRate, notLeast, notJudged, recordOf, verdict, leftAt, rightAt, tried}
+use Rattle.minplus.specs.Meaning.{Meaning, well-formed-proper}
+use Rattle.minplus.specs.Exact.{verdict-exact}
+use Rattle.numbers.specs.Numbers.{numberAt, numberAfter, number-whole}
+use Rattle.numbers.specs.Put.{put, bytesOf, length-bytes, bytes-back}
+use Rattle.judge.specs.Answer.{recordSize, recordIn}
+use Rattle.judge.specs.Records.{recordBytes, recordsTo, length-records, record-parts}
+
+pub record Fits (r : Record) : Type 0 where
+  pub code-fits : r .code < 256 ^ 1
+  pub tick-fits : r .tick < 256 ^ 4
+  pub left-fits : r .left < 256 ^ 8
+  pub right-fits : r .right < 256 ^ 8
+
+-- ---- of a well-formed claim
+
+small : (c : ℕ) → c < 256 → Fits (record { code = c; tick = 0; left = 0; right = 0 })
+small c lt = record { code-fits = omega (arith, lt); tick-fits = omega arith; left-fits = omega arith; right-fits = omega arith }
+
+left-small : (c : Claim) → WellFormedClaim c → (n : ℕ) → n ≤ maxHorizon → leftAt c n < 256 ^ 8
+unfolding leftAt due
+left-small (equals sum f g h) w n le = omega (arith, value-at-most f (w .0) n, value-at-most g (w .1) n)
+left-small (equals minimum f g h) w n le = omega (arith, value-at-most f (w .0) n, value-at-most g (w .1) n)
+left-small (equals convolution f g h) w n le =
+    omega (arith, conv-below (value f) (value g) n 0 n (omega arith), value-at-most f (w .0) 0, value-at-most g (w .1) n)
+left-small (bounds δ t f g X) w n le = omega (arith, value-at-most f (w .0) n)
+
+right-small : (c : Claim) → WellFormedClaim c → (n : ℕ) → n ≤ maxHorizon → rightAt c n < 256 ^ 8
+unfolding rightAt allowed
+right-small (equals op f g h) w n le = omega (arith, value-at-most h (w .2) n)
+right-small (bounds delay t f g X) w n le = omega (arith, value-at-most g (w .1) (n + X), w .2)
+right-small (bounds backlog t f g X) w n le = omega (arith, value-at-most g (w .1) n, w .2)
+
+tried-near : (c : Claim) (n : ℕ) → horizon c ≤ maxHorizon → n < tried c → n ≤ maxHorizon
+unfolding tried
+tried-near (equals op f g h) n le lt = omega (arith, le, lt)
+tried-near (bounds δ t f g X) n le lt = omega (arith, le, lt)
+
+pub record-fits : (c : Claim) → WellFormedClaim c → Fits (recordOf (verdict c))
+unfolding recordOf
+record-fits c well = go (verdict c) (verdict-exact c (well-formed-proper c well) (verdict c) .0 refl)
+  where
+    go : (v : Verdict) → Meaning c v → Fits (recordOf v)
+    go accepted m = small 1 (omega arith)
+    go (refutedAt tick left right) m =
+        let near : tick ≤ maxHorizon = tried-near c tick (m .0) (m .1) in
+        record {
+          code-fits = omega arith;
+          tick-fits = omega (arith, near);
+          left-fits = rw (m .4) (left-small c well tick near);
+          right-fits = rw (m .5) (right-small c well tick near);
+        }
+    go refutedByRate m = small 3 (omega arith)
+    go notLeast m = small 4 (omega arith)
+    go notJudged m = small 5 (omega arith)
+
+-- ---- of a list
+
+number-middle : (pre post : List ℕ) (w n i : ℕ) → n < 256 ^ w → length pre ≡ i → numberAt w (pre ++ (bytesOf w n ++ post)) i ≡ n
+number-middle pre post w n i fits e =
+    let size : length (bytesOf w n) ≡ w = length-bytes w n in
+    number-whole w i (pre ++ (bytesOf w n ++ post))
+    (rw (length-append pre (bytesOf w n ++ post), length-append (bytesOf w n) post, size) (omega (arith, e)))
+    ∙ ap (λ (t : List ℕ). numberAfter 0 (take w t)) (drop-at pre (bytesOf w n ++ post) i e)
+    ∙ ap (numberAfter 0) (take-at (bytesOf w n) post w size) ∙ bytes-back w n fits
+
+records-split : (f : ℕ → Record) (n k : ℕ) → k < n → (rest : List ℕ) × (recordsTo f n ≡ recordsTo f k ++ (recordBytes (f k) ++ rest))
+unfolding recordsTo
+records-split f zero k lt = absurd (omega (arith, lt))
+records-split f (suc n) k lt = go (eq-or-lt-of-le (le-of-suc-le-suc lt)) (records-split f n k)
+  where
+    go : (k ≡ n) ⊎ (k < n) → (k < n → (rest : List ℕ) × (recordsTo f n ≡ recordsTo f k ++ (recordBytes (f k) ++ rest)))
+        → (rest : List ℕ) × (recordsTo f n ++ recordBytes (f n) ≡ recordsTo f k ++ (recordBytes (f k) ++ rest))
+    go (inl e) before = ([], rw (e, append-nil (recordBytes (f n))))
+    go (inr less) before =
+        let t = before less in
+        (t .0 ++ recordBytes (f n), ap (λ (l : List ℕ). l ++ recordBytes (f n)) (t .1) ∙ simp append-assoc)
+
+record-middle : (pre post : List ℕ) (r : Record) (k : ℕ) → Fits r → length pre ≡ recordSize * k → recordIn (pre ++ (recordBytes r ++ post)) k ≡ r
+record-middle pre post r k fits e =
+    let one : List ℕ = bytesOf 1 (r .code) in
+    let four : List ℕ = bytesOf 4 (r .tick) in
+    let left : List ℕ = bytesOf 8 (r .left) in
+    let right : List ℕ = bytesOf 8 (r .right) in
+    let whole : List ℕ = pre ++ (recordBytes r ++ post) in
+    let w₁ : whole ≡ pre ++ (one ++ (four ++ (left ++ (right ++ post)))) = rw (record-parts r) (simp append-assoc) in
+    let w₂ : whole ≡ (pre ++ one) ++ (four ++ (left ++ (right ++ post))) = rw (record-parts r) (simp append-assoc) in
+    let w₃ : whole ≡ ((pre ++ one) ++ four) ++ (left ++ (right ++ post)) = rw (record-parts r) (simp append-assoc) in
+    let w₄ : whole ≡ (((pre ++ one) ++ four) ++ left) ++ (right ++ post) = rw (record-parts r) (simp append-assoc) in
+    let n₂ : length (pre ++ one) ≡ recordSize * k + 1 = rw (length-append pre one, e, length-bytes 1 (r .code)) in
+    let n₃ : length ((pre ++ one) ++ four) ≡ recordSize * k + 5 = rw (length-append (pre ++ one) four, n₂, length-bytes 4 (r .tick)) (omega arith) in
+    let n₄ : length (((pre ++ one) ++ four) ++ left) ≡ recordSize * k + 13 = rw (length-append ((pre ++ one) ++ four) left, n₃, length-bytes 8 (r .left)) (omega arith) in
+    let c = ap (λ (t : List ℕ). numberAt 1 t (recordSize * k)) w₁ ∙ number-middle pre _ 1 (r .code) _ (fits .code-fits) e in
+    let t = ap (λ (t : List ℕ). numberAt 4 t (recordSize * k + 1)) w₂ ∙ number-middle (pre ++ one) _ 4 (r .tick) _ (fits .tick-fits) n₂ in
+    let l = ap (λ (t : List ℕ). numberAt 8 t (recordSize * k + 5)) w₃ ∙ number-middle ((pre ++ one) ++ four) _ 8 (r .left) _ (fits .left-fits) n₃ in
+    let m = ap (λ (t : List ℕ). numberAt 8 t (recordSize * k + 13)) w₄ ∙ number-middle (((pre ++ one) ++ four) ++ left) _ 8 (r .right) _ (fits .right-fits) n₄ in
+    λ i. record { code = c i; tick = t i; left = l i; right = m i }
+
+pub records-back : (b : List ℕ) (f : ℕ → Record) (n k : ℕ) → k < n → Fits (f k) → recordIn (put b 0 (recordsTo f n)) k ≡ f k
+unfolding put
+records-back b f n k lt fits =
+    let split = records-split f n k lt in
+    let rest : List ℕ = drop (0 + length (recordsTo f n)) b in
+    let whole : recordsTo f n ++ rest ≡ recordsTo f k ++ (recordBytes (f k) ++ (split .0 ++ rest)) = ap (λ (l : List ℕ). l ++ rest) (split .1) ∙ simp append-assoc in
+    ap (λ (l : List ℕ). recordIn l k) whole ∙ record-middle (recordsTo f k) (split .0 ++ rest) (f k) k fits (length-records f k)
