@@ -121,6 +121,20 @@ fn zero_sum(rank: i64) -> Book {
     book(curves, &[(1, 0, 1, 2)])
 }
 
+/// Both ranks are 9 and D is 4,087: the horizon is 4,096 with the greater of the ranks, and above
+/// the limit with their sum.
+fn ranks() -> Book {
+    let curves = vec![line(9, 61, 0, 0), line(9, 67, 0, 0), line(0, 1, 0, 0)];
+    book(curves, &[(1, 0, 1, 2), (2, 0, 1, 2)])
+}
+
+/// f is 0 before its rank and large from tick T+d-1 on: with f(T) in the least over 0 <= t < T, N
+/// would be above the limit.
+fn before_the_rank() -> Book {
+    let f = curve(2, 2, 0, &[0, 0, 0, 4093]);
+    book(vec![f, line(0, 1, 1, 0), line(0, 1, 0, 0)], &[(3, 0, 1, 2)])
+}
+
 /// Every code that each kind can have. Curve 6 with curve 7 has a horizon of 4,097.
 fn mixed() -> Book {
     let curves = vec![
@@ -169,6 +183,11 @@ pub fn examples() -> Result<Vec<Example>, String> {
     let unjudged = single("not judged", 0, 0, 1);
     all.push(("zero_rank_9", zero_sum(9).bytes(), accepted()));
     all.push(("zero_rank_10", zero_sum(10).bytes(), unjudged));
+    let both = "claim 0 accepted\nclaim 1 accepted\n\
+                total 2 accepted 2 refuted 0 unjudged 0\ncertified yes\n";
+    all.push(("ranks", ranks().bytes(), both.into()));
+    let at_3 = refuted("at 3 left 1 right 0");
+    all.push(("before_the_rank", before_the_rank().bytes(), at_3));
     all.push(("empty", vec![], "refused 1 at 0\n".into()));
     // The claim of W8 stands at byte 46: 4 of the version, 19 of A and 23 of B before it.
     all.push(("torn", W8[..50].to_vec(), "refused 1 at 46\n".into()));
