@@ -1,0 +1,4 @@
+-- The lines for an answer of the judge.
+pub mod Text
+pub mod Written
+pub mod Lines

@@ -1,0 +1,153 @@
+-- Document 01's lines for an answer of the judge and its verdict buffer.
+--
+--     refusalIn, placeIn, acceptedIn, refutedIn, unjudgedIn     the parts of an answer; claimsIn: the three totals together
+--     answerWith          an answer from its parts; answer-parts: the parts of it
+--     codeIn, tickIn, leftIn, rightIn     a claim's record
+--     part w n            words and the number after them
+--     claimLine, totalLine, certifiedLine, refusedLine     the lines; linesTo: those of the first claims
+--     reportOf            the whole text
+--     reportIn            the same where the lent bytes have room for it, else nothing
+use Prim.Native.Nat.{ℕ, zero, suc, _+_, _*_, _/_, _%_, _^_, _≤_, _<_}
+use Prim.Native.String.{String}
+use mathlib.Core.Path.{_≡_}
+use mathlib.Core.Bool.{Bool, true, false, _&&_}
+use mathlib.Core.List.{List, [], _++_}
+use native.Mathlib.Omega.{arith}
+use lib.Dec.{leb, ltb, eqb}
+use borrow.Author.Tests.{lt-ltb, le-ltb, eq-eqb, ne-eqb}
+use Rattle.numbers.specs.Numbers.{numberAt}
+use Rattle.report.specs.Text.{bytes, decimal}
+
+-- "refusal number + 2^8 * place + 2^24 * accepted + 2^36 * refuted + 2^48 * not judged"
+abbrev pub answerWith : ℕ → ℕ → ℕ → ℕ → ℕ → ℕ
+answerWith refusal place accepted refuted unjudged =
+    refusal + 2 ^ 8 * place + 2 ^ 24 * accepted + 2 ^ 36 * refuted + 2 ^ 48 * unjudged
+
+abbrev pub refusalIn : ℕ → ℕ
+refusalIn answer = answer % 2 ^ 8
+
+abbrev pub placeIn : ℕ → ℕ
+placeIn answer = answer / 2 ^ 8 % 2 ^ 16
+
+abbrev pub acceptedIn : ℕ → ℕ
+acceptedIn answer = answer / 2 ^ 24 % 2 ^ 12
+
+abbrev pub refutedIn : ℕ → ℕ
+refutedIn answer = answer / 2 ^ 36 % 2 ^ 12
+
+abbrev pub unjudgedIn : ℕ → ℕ
+unjudgedIn answer = answer / 2 ^ 48
+
+-- "accepted, refuted and not judged add up to the claims counted in the book"
+abbrev pub claimsIn : ℕ → ℕ
+claimsIn answer = acceptedIn answer + refutedIn answer + unjudgedIn answer
+
+-- "A record is 21 bytes: code, tick (4 bytes), left value (8), right value (8), high byte first."
+abbrev pub codeIn : List ℕ → ℕ → ℕ
+codeIn verdicts k = numberAt 1 verdicts (21 * k)
+
+abbrev pub tickIn : List ℕ → ℕ → ℕ
+tickIn verdicts k = numberAt 4 verdicts (21 * k + 1)
+
+abbrev pub leftIn : List ℕ → ℕ → ℕ
+leftIn verdicts k = numberAt 8 verdicts (21 * k + 5)
+
+abbrev pub rightIn : List ℕ → ℕ → ℕ
+rightIn verdicts k = numberAt 8 verdicts (21 * k + 13)
+
+-- ---- the lines
+
+unfoldable pub part : String → ℕ → List ℕ
+unfolding bytes decimal
+part words n = bytes words ++ decimal n
+
+abbrev on : Bool → List ℕ → List ℕ → List ℕ
+on true here else = here
+on false here else = else
+
+-- "claim K refuted at N left V right W", after `claim K`
+unfoldable pub refutedAt : ℕ → ℕ → ℕ → List ℕ
+unfolding part bytes
+refutedAt tick left right = part " refuted at " tick ++ part " left " left ++ part " right " right ++ bytes "\n"
+
+-- the words after `claim K`, by the record's code: 5, and a code that no verdict has, are not judged
+unfoldable pub verdictWords : ℕ → ℕ → ℕ → ℕ → List ℕ
+unfolding bytes refutedAt
+verdictWords code tick left right =
+    on (eqb code 1) (bytes " accepted\n")
+    (on (eqb code 2) (refutedAt tick left right)
+    (on (eqb code 3) (bytes " refuted by rate\n")
+    (on (eqb code 4) (bytes " refuted not least\n")
+    (bytes " not judged\n"))))
+
+abbrev pub wordsIn : List ℕ → ℕ → List ℕ
+wordsIn verdicts k = verdictWords (codeIn verdicts k) (tickIn verdicts k) (leftIn verdicts k) (rightIn verdicts k)
+
+unfoldable pub claimLine : List ℕ → ℕ → List ℕ
+unfolding part verdictWords
+claimLine verdicts k = part "claim " k ++ wordsIn verdicts k
+
+unfoldable pub claimLines : List ℕ → ℕ → List ℕ
+unfolding claimLine
+claimLines verdicts zero = []
+claimLines verdicts (suc k) = claimLines verdicts k ++ claimLine verdicts k
+
+unfoldable pub totalLine : ℕ → ℕ → ℕ → List ℕ
+unfolding part bytes
+totalLine accepted refuted unjudged =
+    part "total " (accepted + refuted + unjudged) ++ part " accepted " accepted ++ part " refuted " refuted ++ part " unjudged " unjudged ++ bytes "\n"
+
+-- "yes exactly when there is at least one claim and all are accepted"
+unfoldable pub certifiedLine : ℕ → ℕ → List ℕ
+unfolding bytes
+certifiedLine claims accepted = on (leb 1 claims && eqb accepted claims) (bytes "certified yes\n") (bytes "certified no\n")
+
+unfoldable pub refusedLine : ℕ → ℕ → List ℕ
+unfolding part bytes
+refusedLine refusal place = part "refused " refusal ++ part " at " place ++ bytes "\n"
+
+unfoldable pub reportOf : ℕ → List ℕ → List ℕ
+unfolding claimLines totalLine certifiedLine refusedLine
+reportOf answer verdicts =
+    on (eqb (refusalIn answer) 0)
+    (claimLines verdicts (claimsIn answer)
+    ++ totalLine (acceptedIn answer) (refutedIn answer) (unjudgedIn answer)
+    ++ certifiedLine (claimsIn answer) (acceptedIn answer))
+    (refusedLine (refusalIn answer) (placeIn answer))
+
+-- the length of the longest line, `claim K refuted at N left V right W` with K of 5 digits, N of 10, V and W of 20
+abbrev pub maxLine : ℕ
+maxLine = 87
+
+unfoldable pub reportIn : ℕ → ℕ → List ℕ → List ℕ
+unfolding reportOf
+reportIn room answer verdicts = on (ltb room (maxLine * (claimsIn answer + 2))) [] (reportOf answer verdicts)
+
+-- the totals of any answer of 64 bits
+pub record Totals (accepted refuted unjudged : ℕ) : Type 0 where
+  pub few-accepted : accepted < 2 ^ 12
+  pub few-refuted : refuted < 2 ^ 12
+  pub few-unjudged : unjudged < 2 ^ 16
+
+-- ---- laws
+
+pub answer-parts : (n p a r u : ℕ) → n < 2 ^ 8 → p < 2 ^ 16 → a < 2 ^ 12 → r < 2 ^ 12
+    → (refusalIn (answerWith n p a r u) ≡ n) × (placeIn (answerWith n p a r u) ≡ p)
+    × (acceptedIn (answerWith n p a r u) ≡ a) × (refutedIn (answerWith n p a r u) ≡ r) × (unjudgedIn (answerWith n p a r u) ≡ u)
+answer-parts n p a r u hn hp ha hr = (omega arith, omega arith, omega arith, omega arith, omega arith)
+
+module _ (room answer : ℕ) (verdicts : List ℕ) where
+  pub report-short : room < maxLine * (claimsIn answer + 2) → reportIn room answer verdicts ≡ []
+  unfolding reportIn
+  report-short short = rw (lt-ltb _ _ short, reportIn)
+
+  module _ (roomy : maxLine * (claimsIn answer + 2) ≤ room) where
+    pub report-refused : (refusalIn answer ≡ 0 → ⊥) → reportIn room answer verdicts ≡ refusedLine (refusalIn answer) (placeIn answer)
+    unfolding reportIn
+    report-refused refused = rw (le-ltb _ _ roomy, ne-eqb _ _ refused, reportIn)
+
+    pub report-judged : refusalIn answer ≡ 0
+        → reportIn room answer verdicts
+        ≡ claimLines verdicts (claimsIn answer) ++ totalLine (acceptedIn answer) (refutedIn answer) (unjudgedIn answer) ++ certifiedLine (claimsIn answer) (acceptedIn answer)
+    unfolding reportIn
+    report-judged judged = rw (le-ltb _ _ roomy, eq-eqb _ _ judged, reportIn)
