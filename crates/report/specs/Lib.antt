@@ -2,3 +2,4 @@
 pub mod Text
 pub mod Written
 pub mod Lines
+pub mod Ground

@@ -1,22 +1,28 @@
 -- Document 01's lines for an answer of the judge and its verdict buffer.
 --
 --     refusalIn, placeIn, acceptedIn, refutedIn, unjudgedIn     the parts of an answer; claimsIn: the three totals together
---     answerWith          an answer from its parts; answer-parts: the parts of it
---     codeIn, tickIn, leftIn, rightIn     a claim's record
+--     answerWith          an answer from its parts; answer-parts: they are its parts
+--     codeIn, tickIn, leftIn, rightIn     the record of a claim
 --     part w n            words and the number after them
---     claimLine, totalLine, certifiedLine, refusedLine     the lines; linesTo: those of the first claims
+--     claimLine, totalLine, certifiedLine, refusedLine     the lines; claimLines: those of the first claims
+--     verdictWords        a claim's line after `claim K`, by its record's numbers; wordsIn: by its record; refutedAt: code 2
 --     reportOf            the whole text
 --     reportIn            the same where the lent bytes have room for it, else nothing
+--     maxLine, maxWords   the length of the longest line, and of the longest verdictWords
+--     Totals              what the totals of an answer can be
+--     refuted-short, total-short     how many digits the numbers of a line can have
+--     report-short, report-refused, report-judged     reportIn, by its tests
 use Prim.Native.Nat.{ℕ, zero, suc, _+_, _*_, _/_, _%_, _^_, _≤_, _<_}
 use Prim.Native.String.{String}
 use mathlib.Core.Path.{_≡_}
-use mathlib.Core.Bool.{Bool, true, false, _&&_}
+use mathlib.Core.Bool.{_&&_, cond}
 use mathlib.Core.List.{List, [], _++_}
 use native.Mathlib.Omega.{arith}
+use lib.ListN.{length}
 use lib.Dec.{leb, ltb, eqb}
 use borrow.Author.Tests.{lt-ltb, le-ltb, eq-eqb, ne-eqb}
 use Rattle.numbers.specs.Numbers.{numberAt}
-use Rattle.report.specs.Text.{bytes, decimal}
+use Rattle.report.specs.Text.{bytes, decimal, decimal-short}
 
 -- "refusal number + 2^8 * place + 2^24 * accepted + 2^36 * refuted + 2^48 * not judged"
 abbrev pub answerWith : ℕ → ℕ → ℕ → ℕ → ℕ → ℕ
@@ -42,28 +48,27 @@ unjudgedIn answer = answer / 2 ^ 48
 abbrev pub claimsIn : ℕ → ℕ
 claimsIn answer = acceptedIn answer + refutedIn answer + unjudgedIn answer
 
+abbrev pub recordSize : ℕ
+recordSize = 21
+
 -- "A record is 21 bytes: code, tick (4 bytes), left value (8), right value (8), high byte first."
 abbrev pub codeIn : List ℕ → ℕ → ℕ
-codeIn verdicts k = numberAt 1 verdicts (21 * k)
+codeIn verdicts k = numberAt 1 verdicts (recordSize * k)
 
 abbrev pub tickIn : List ℕ → ℕ → ℕ
-tickIn verdicts k = numberAt 4 verdicts (21 * k + 1)
+tickIn verdicts k = numberAt 4 verdicts (recordSize * k + 1)
 
 abbrev pub leftIn : List ℕ → ℕ → ℕ
-leftIn verdicts k = numberAt 8 verdicts (21 * k + 5)
+leftIn verdicts k = numberAt 8 verdicts (recordSize * k + 5)
 
 abbrev pub rightIn : List ℕ → ℕ → ℕ
-rightIn verdicts k = numberAt 8 verdicts (21 * k + 13)
+rightIn verdicts k = numberAt 8 verdicts (recordSize * k + 13)
 
 -- ---- the lines
 
 unfoldable pub part : String → ℕ → List ℕ
 unfolding bytes decimal
 part words n = bytes words ++ decimal n
-
-abbrev on : Bool → List ℕ → List ℕ → List ℕ
-on true here else = here
-on false here else = else
 
 -- "claim K refuted at N left V right W", after `claim K`
 unfoldable pub refutedAt : ℕ → ℕ → ℕ → List ℕ
@@ -74,10 +79,10 @@ refutedAt tick left right = part " refuted at " tick ++ part " left " left ++ pa
 unfoldable pub verdictWords : ℕ → ℕ → ℕ → ℕ → List ℕ
 unfolding bytes refutedAt
 verdictWords code tick left right =
-    on (eqb code 1) (bytes " accepted\n")
-    (on (eqb code 2) (refutedAt tick left right)
-    (on (eqb code 3) (bytes " refuted by rate\n")
-    (on (eqb code 4) (bytes " refuted not least\n")
+    cond (eqb code 1) (bytes " accepted\n")
+    (cond (eqb code 2) (refutedAt tick left right)
+    (cond (eqb code 3) (bytes " refuted by rate\n")
+    (cond (eqb code 4) (bytes " refuted not least\n")
     (bytes " not judged\n"))))
 
 abbrev pub wordsIn : List ℕ → ℕ → List ℕ
@@ -100,7 +105,7 @@ totalLine accepted refuted unjudged =
 -- "yes exactly when there is at least one claim and all are accepted"
 unfoldable pub certifiedLine : ℕ → ℕ → List ℕ
 unfolding bytes
-certifiedLine claims accepted = on (leb 1 claims && eqb accepted claims) (bytes "certified yes\n") (bytes "certified no\n")
+certifiedLine claims accepted = cond (leb 1 claims && eqb accepted claims) (bytes "certified yes\n") (bytes "certified no\n")
 
 unfoldable pub refusedLine : ℕ → ℕ → List ℕ
 unfolding part bytes
@@ -109,19 +114,22 @@ refusedLine refusal place = part "refused " refusal ++ part " at " place ++ byte
 unfoldable pub reportOf : ℕ → List ℕ → List ℕ
 unfolding claimLines totalLine certifiedLine refusedLine
 reportOf answer verdicts =
-    on (eqb (refusalIn answer) 0)
+    cond (eqb (refusalIn answer) 0)
     (claimLines verdicts (claimsIn answer)
     ++ totalLine (acceptedIn answer) (refutedIn answer) (unjudgedIn answer)
     ++ certifiedLine (claimsIn answer) (acceptedIn answer))
     (refusedLine (refusalIn answer) (placeIn answer))
 
--- the length of the longest line, `claim K refuted at N left V right W` with K of 5 digits, N of 10, V and W of 20
+-- `claim K refuted at N left V right W` with K of 5 digits, N of 10, V and W of 20
 abbrev pub maxLine : ℕ
 maxLine = 87
 
+abbrev pub maxWords : ℕ
+maxWords = 76
+
 unfoldable pub reportIn : ℕ → ℕ → List ℕ → List ℕ
 unfolding reportOf
-reportIn room answer verdicts = on (ltb room (maxLine * (claimsIn answer + 2))) [] (reportOf answer verdicts)
+reportIn room answer verdicts = cond (ltb room (maxLine * (claimsIn answer + 2))) [] (reportOf answer verdicts)
 
 -- the totals of any answer of 64 bits
 pub record Totals (accepted refuted unjudged : ℕ) : Type 0 where
@@ -135,6 +143,20 @@ pub answer-parts : (n p a r u : ℕ) → n < 2 ^ 8 → p < 2 ^ 16 → a < 2 ^ 12
     → (refusalIn (answerWith n p a r u) ≡ n) × (placeIn (answerWith n p a r u) ≡ p)
     × (acceptedIn (answerWith n p a r u) ≡ a) × (refutedIn (answerWith n p a r u) ≡ r) × (unjudgedIn (answerWith n p a r u) ≡ u)
 answer-parts n p a r u hn hp ha hr = (omega arith, omega arith, omega arith, omega arith, omega arith)
+
+-- how many digits the numbers of a line can have
+pub refuted-short : (tick left right : ℕ) → tick < 2 ^ 32 → left < 2 ^ 64 → right < 2 ^ 64
+    → (length (decimal tick) ≤ 10) × (length (decimal left) ≤ 20) × (length (decimal right) ≤ 20)
+refuted-short tick left right lt lt′ lt″ = (decimal-short 9 tick (omega (arith, lt)), decimal-short 19 left (omega (arith, lt′)), decimal-short 19 right (omega (arith, lt″)))
+
+pub total-short : {accepted refuted unjudged : ℕ} → Totals accepted refuted unjudged
+    → (length (decimal (accepted + refuted + unjudged)) ≤ 5) × (length (decimal accepted) ≤ 4) × (length (decimal refuted) ≤ 4) × (length (decimal unjudged) ≤ 5)
+total-short {accepted} {refuted} {unjudged} few = (
+  decimal-short 4 (accepted + refuted + unjudged) (omega arith),
+  decimal-short 3 accepted (omega arith),
+  decimal-short 3 refuted (omega arith),
+  decimal-short 4 unjudged (omega arith),
+)
 
 module _ (room answer : ℕ) (verdicts : List ℕ) where
   pub report-short : room < maxLine * (claimsIn answer + 2) → reportIn room answer verdicts ≡ []

@@ -6,7 +6,8 @@
 --     valueOf n s        digits as one number, after a number that stands before them
 --     decimal-digit, decimal-more     decimal, by whether one digit holds the number
 --     decimal-back       read again the digits are the number; decimal-first: no 0 stands before them
---     decimal-short      a number below 10 ^ k has at most k digits
+--     decimal-some, decimal-short     one digit or more; at most k where the number is below 10 ^ k
+--     tenth-less, length-more         a number without its last digit, and how long it is
 use Prim.Native.Nat.{ℕ, zero, suc, _+_, _-_, _*_, _/_, _%_, _^_, _≤_, _<_}
 use Prim.Native.Char.{code}
 use Prim.Native.String.{String, [] as no-more, _∷_ as _then_}
@@ -14,9 +15,9 @@ use mathlib.Core.Path.{_≡_, refl, sym, ap, _∙_}
 use mathlib.Core.Bool.{true, false}
 use mathlib.Core.List.{List, [], _∷_, _++_}
 use native.Mathlib.Omega.{arith}
-use native.Mathlib.Nat.{div-add-mod', div-lt-iff-lt-mul, div-lt-self, mod-lt, pow-succ', zero-add}
-use lib.ListN.{length, getD, length-append, List·getD-append}
+use native.Mathlib.Nat.{div-add-mod', div-lt-iff-lt-mul, div-lt-self, mod-lt, pow-succ'}
 use native.Mathlib.Decide.{decLe}
+use lib.ListN.{length, getD, length-append, List·getD-append}
 use lib.Dec.{ltb}
 use borrow.Author.Tests.{lt-ltb, le-ltb}
 
@@ -51,15 +52,15 @@ by-more : (k n : ℕ) → 10 ≤ n → decimalBy (suc k) n ≡ decimalBy k (n / 
 unfolding decimalBy
 by-more k n high = rw (le-ltb n 10 high, decimalBy)
 
-pub fewer : (n : ℕ) → 10 ≤ n → n / 10 < n
-fewer n high = div-lt-self (omega (arith, high)) (omega arith)
+pub tenth-less : (n : ℕ) → 10 ≤ n → n / 10 < n
+tenth-less n high = div-lt-self (omega (arith, high)) (omega arith)
 
 -- any number of steps that is enough gives the same
 enough : (k j n : ℕ) → n < k → n < j → decimalBy k n ≡ decimalBy j n
 enough (suc k) (suc j) n lt lt′ = elim (decLe 10 n) [
   | yes high ↦
       by-more k n high
-      ∙ ap (λ (s : List ℕ). s ++ (digit (n % 10) ∷ [])) (enough k j (n / 10) (omega (arith, lt, fewer n high)) (omega (arith, lt′, fewer n high)))
+      ∙ ap (λ (s : List ℕ). s ++ (digit (n % 10) ∷ [])) (enough k j (n / 10) (omega (arith, lt, tenth-less n high)) (omega (arith, lt′, tenth-less n high)))
       ∙ sym (by-more j n high)
   | no low ↦ by-digit k n (omega (arith, low)) ∙ sym (by-digit j n (omega (arith, low)))
 ]
@@ -71,7 +72,7 @@ decimal-digit n low = by-digit n n low
 pub decimal-more : (n : ℕ) → 10 ≤ n → decimal n ≡ decimal (n / 10) ++ (digit (n % 10) ∷ [])
 unfolding decimal
 decimal-more n high =
-    by-more n n high ∙ ap (λ (s : List ℕ). s ++ (digit (n % 10) ∷ [])) (enough n (suc (n / 10)) (n / 10) (fewer n high) (omega arith))
+    by-more n n high ∙ ap (λ (s : List ℕ). s ++ (digit (n % 10) ∷ [])) (enough n (suc (n / 10)) (n / 10) (tenth-less n high) (omega arith))
 
 pub length-more : (n : ℕ) → 10 ≤ n → length (decimal n) ≡ length (decimal (n / 10)) + 1
 length-more n high = ap length (decimal-more n high) ∙ length-append (decimal (n / 10)) (digit (n % 10) ∷ [])
@@ -79,12 +80,12 @@ length-more n high = ap length (decimal-more n high) ∙ length-append (decimal 
 module _ (S : ℕ → Type 0) (one : (n : ℕ) → n < 10 → S n) (more : (n : ℕ) → 10 ≤ n → S (n / 10) → S n) where
   by-digits : (k n : ℕ) → n < k → S n
   by-digits (suc k) n lt = elim (decLe 10 n) [
-    | yes high ↦ more n high (by-digits k (n / 10) (omega (arith, lt, fewer n high)))
+    | yes high ↦ more n high (by-digits k (n / 10) (omega (arith, lt, tenth-less n high)))
     | no low ↦ one n (omega (arith, low))
   ]
 
-  -- a fact of every number, from the numbers of one digit and from one digit fewer
-  pub each-number : (n : ℕ) → S n
+  -- a fact of every number, from the numbers of one digit and from one digit tenth-less
+  each-number : (n : ℕ) → S n
   each-number n = by-digits (suc n) n (omega arith)
 
 value-append : (n : ℕ) (s t : List ℕ) → valueOf n (s ++ t) ≡ valueOf (valueOf n s) t

@@ -1,18 +1,17 @@
 // Document 01's lines for an answer of the judge and its verdict buffer.
-ghost use Prim.Native.Nat.{_+_, _*_, _≤_, _<_};
+ghost use Prim.Native.Nat.{_+_, _*_, _^_, _≤_, _<_};
 ghost use mathlib.Core.Path.{_≡_};
 ghost use lib.ListN.{length};
 ghost use Rattle.numbers.specs.Put.{put};
-ghost use Rattle.report.specs.Lines.{maxLine, Totals, refutedAt, wordsIn, claimLine, claimLines, totalLine, certifiedLine, refusedLine, reportIn};
+ghost use Rattle.report.specs.Lines.{maxLine, maxWords, Totals, refutedAt, wordsIn, claimLine, claimLines, totalLine, certifiedLine, refusedLine, reportIn};
 ghost use Rattle.report.specs.Written.{Wrote};
 use numbers::number1;
 use numbers::number4;
 use numbers::number8;
-
-mod text;
-
 use text::put_part;
 use text::put_words;
+
+mod text;
 
 // A record of the verdict buffer.
 const RECORD: usize = 21;
@@ -21,9 +20,9 @@ const RECORD: usize = 21;
 pub const MAX_LINE: usize = 87;
 
 fn refuted_at(out: &mut [u8], at: usize, tick: u32, left: u64, right: u64) -> usize
-    requires { ⌜ at + 76 ≤ length (now out) ⌝ }
+    requires { ⌜ at + maxWords ≤ length (now out) ⌝ }
     ensures { λ r. ⌜ Wrote (now (out .entry)) at (refutedAt tick left right) (now (out .exit)) r ⌝ }
-    ensures { λ r. ⌜ r ≤ at + 76 ⌝ }
+    ensures { λ r. ⌜ r ≤ at + maxWords ⌝ }
 {
     let after_tick = put_part(out, at, b" refuted at ", tick as u64);
     let after_left = put_part(out, after_tick, b" left ", left);
@@ -33,10 +32,10 @@ fn refuted_at(out: &mut [u8], at: usize, tick: u32, left: u64, right: u64) -> us
 
 // A code that no verdict has is not judged.
 fn verdict_words(out: &mut [u8], at: usize, verdicts: &[u8], k: usize) -> usize
-    requires { ⌜ at + 76 ≤ length (now out) ⌝ }
-    requires { ⌜ k < 100000 ⌝ }
+    requires { ⌜ at + maxWords ≤ length (now out) ⌝ }
+    requires { ⌜ k < 10 ^ 5 ⌝ }
     ensures { λ r. ⌜ Wrote (now (out .entry)) at (wordsIn (now (verdicts .entry)) k) (now (out .exit)) r ⌝ }
-    ensures { λ r. ⌜ r ≤ at + 76 ⌝ }
+    ensures { λ r. ⌜ r ≤ at + maxWords ⌝ }
 {
     let record = RECORD * k;
     match number1(verdicts, record) {
@@ -56,7 +55,7 @@ fn verdict_words(out: &mut [u8], at: usize, verdicts: &[u8], k: usize) -> usize
 
 fn claim_line(out: &mut [u8], at: usize, verdicts: &[u8], k: usize) -> usize
     requires { ⌜ at + maxLine ≤ length (now out) ⌝ }
-    requires { ⌜ k < 100000 ⌝ }
+    requires { ⌜ k < 10 ^ 5 ⌝ }
     ensures { λ r. ⌜ Wrote (now (out .entry)) at (claimLine (now (verdicts .entry)) k) (now (out .exit)) r ⌝ }
     ensures { λ r. ⌜ r ≤ at + maxLine ⌝ }
 {
@@ -64,10 +63,9 @@ fn claim_line(out: &mut [u8], at: usize, verdicts: &[u8], k: usize) -> usize
     verdict_words(out, next, verdicts, k)
 }
 
-// As many as the totals of any answer can be.
 fn claim_lines(out: &mut [u8], verdicts: &[u8], claims: usize) -> usize
     requires { ⌜ maxLine * claims ≤ length (now out) ⌝ }
-    requires { ⌜ claims < 100000 ⌝ }
+    requires { ⌜ claims < 10 ^ 5 ⌝ }
     ensures { λ r. ⌜ Wrote (now (out .entry)) 0 (claimLines (now (verdicts .entry)) claims) (now (out .exit)) r ⌝ }
     ensures { λ r. ⌜ r ≤ maxLine * claims ⌝ }
 {
@@ -107,8 +105,8 @@ fn certified_line(out: &mut [u8], at: usize, claims: u64, accepted: u64) -> usiz
 
 fn refused_line(out: &mut [u8], refusal: u64, place: u64) -> usize
     requires { ⌜ maxLine ≤ length (now out) ⌝ }
-    requires { ⌜ refusal < 1000 ⌝ }
-    requires { ⌜ place < 100000 ⌝ }
+    requires { ⌜ refusal < 2 ^ 8 ⌝ }
+    requires { ⌜ place < 2 ^ 16 ⌝ }
     ensures { λ r. ⌜ Wrote (now (out .entry)) 0 (refusedLine refusal place) (now (out .exit)) r ⌝ }
 {
     let after_refusal = put_part(out, 0, b"refused ", refusal);

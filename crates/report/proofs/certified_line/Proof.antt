@@ -1,46 +1,35 @@
+use mathlib.Core.Logic.{⊎-elim}
 use native.Mathlib.Omega.{arith}
 use borrow.Author.Needs.{needs}
 use borrow.Author.Tests.{le-leb, lt-leb, eq-eqb, ne-eqb}
-use mathlib.Core.Logic.{⊎-elim}
 use Rattle.report.specs.Lines.{certifiedLine}
 use Rattle.report.proofs.certified_line.Statement.{statement}
 use Rattle.report.proofs.certified_line.Tie as tie
-use Rattle.report.proofs.certified_line.Reads as reads
-use Rattle.report.proofs.certified_line.Lts as lts
-use Rattle.report.proofs.text.put_words.Reads as put-words-reads
 
--- src/lib.rt:102:39
 slice-aggregate-put-words : tie.Need-slice-aggregate-put-words
 slice-aggregate-put-words c = search needs
 
--- src/lib.rt:102:13
 put-words-requires : tie.Need-put-words-requires
 put-words-requires c κs = search needs
 
--- src/lib.rt:102:13
 same-length : tie.Need-same-length
 same-length c = search needs
 
--- src/lib.rt:102:13
 returns : tie.Need-returns
 unfolding certifiedLine
 returns c =
     let a = c .before .before .before .before .before .before .before .before .args in
     rw (le-leb 1 (a .claims) (omega arith), eq-eqb (a .accepted) (a .claims) (omega arith), certifiedLine) (c .before .before .put-words .ensures)
 
--- src/lib.rt:105:24
 slice-aggregate-put-words-2 : tie.Need-slice-aggregate-put-words-2
 slice-aggregate-put-words-2 c = search needs
 
--- src/lib.rt:105:5
 put-words-requires-2 : tie.Need-put-words-requires-2
 put-words-requires-2 c κs = search needs
 
--- src/lib.rt:96:1
 same-length-2 : tie.Need-same-length-2
 same-length-2 c = search needs
 
--- src/lib.rt:96:1
 returns-2 : tie.Need-returns-2
 unfolding certifiedLine
 returns-2 c =

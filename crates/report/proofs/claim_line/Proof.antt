@@ -5,33 +5,24 @@ use Rattle.report.specs.Written.{wrote-on}
 use Rattle.report.specs.Lines.{claimLine}
 use Rattle.report.proofs.claim_line.Statement.{statement}
 use Rattle.report.proofs.claim_line.Tie as tie
-use Rattle.report.proofs.claim_line.Reads as reads
-use Rattle.report.proofs.claim_line.Lts as lts
-use Rattle.report.proofs.text.put_part.Reads as put-part-reads
-use Rattle.report.proofs.verdict_words.Reads as verdict-words-reads
 
--- src/lib.rt:63:34
 slice-aggregate-put-part : tie.Need-slice-aggregate-put-part
 slice-aggregate-put-part c = search needs
 
--- src/lib.rt:63:9
 put-part-requires : tie.Need-put-part-requires
 put-part-requires c κs = omega (arith, decimal-short 4 (c .before .before .before .before .args .k) (omega arith))
 
--- src/lib.rt:64:5
 verdict-words-requires : tie.Need-verdict-words-requires
-verdict-words-requires c κs = (omega (arith, decimal-short 4 (c .before .before .before .before .before .before .before .before .args .k) (omega arith), c .before .before .before .put-part .ensures .past), omega arith)
+verdict-words-requires c κs = (omega (arith, decimal-short 4 (c .before .before .before .before .before .before .before .before .args .k) (omega arith)), omega arith)
 
--- src/lib.rt:57:1
 same-length : tie.Need-same-length
 same-length c = search needs
 
--- src/lib.rt:57:1
 returns : tie.Need-returns
 unfolding claimLine
 returns c = (
   wrote-on (c .before .before .before .before .before .before .put-part .ensures) (c .before .before .verdict-words .ensures .0),
-  omega (arith, decimal-short 4 (c .before .before .before .before .before .before .before .before .before .before .before .args .k) (omega arith), c .before .before .before .before .before .before .put-part .ensures .past),
+  omega (arith, decimal-short 4 (c .before .before .before .before .before .before .before .before .before .before .before .args .k) (omega arith)),
 )
 
 pub claim-line-spec : {M : Type 1} → statement M

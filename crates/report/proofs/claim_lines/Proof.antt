@@ -6,9 +6,6 @@ use Rattle.report.specs.Written.{Wrote, wrote-nothing, wrote-on, wrote-l
 use Rattle.report.specs.Lines.{maxLine, claimLines}
 use Rattle.report.proofs.claim_lines.Statement.{statement}
 use Rattle.report.proofs.claim_lines.Tie as tie
-use Rattle.report.proofs.claim_lines.Reads as reads
-use Rattle.report.proofs.claim_lines.Lts as lts
-use Rattle.report.proofs.claim_line.Reads as claim-line-reads
 
 abbrev Inv-loop : tie.InvT-loop
 Inv-loop out₀ verdicts claims at₀ k₀ out at k = (k ≤ claims) × ((at ≤ maxLine * k) × Wrote out₀ 0 (claimLines verdicts k) out at)
@@ -16,35 +13,28 @@ Inv-loop out₀ verdicts claims at₀ k₀ out at k = (k ≤ claims) × ((at ≤
 abbrev μ-loop : tie.MeasureT-loop
 μ-loop out₀ verdicts claims at₀ k₀ out at k = claims - k
 
--- src/lib.rt:76:5
 loop-holds : tie.Need-loop-holds Inv-loop μ-loop
 unfolding claimLines
 loop-holds c = (omega arith, (omega arith, wrote-nothing _ 0 (omega arith)))
 
--- src/lib.rt:77:9
 claim-line-requires : tie.Need-claim-line-requires Inv-loop μ-loop
 claim-line-requires c κs = (omega (arith, wrote-length (c .before .before .loop .inv .1 .1)), omega arith)
 
--- src/lib.rt:78:9
 add-k : tie.Need-add-k Inv-loop μ-loop
 add-k c = omega arith
 
--- src/lib.rt:76:5
 loop-less : tie.Need-loop-less Inv-loop μ-loop
 loop-less c = omega arith
 
--- src/lib.rt:76:5
 loop-again : tie.Need-loop-again Inv-loop μ-loop
 unfolding claimLines
 loop-again c =
     let at-k = c .before .before .before .before .before .loop in
     (omega arith, (omega arith, rw (add-one (at-k .k)) (wrote-on (at-k .inv .1 .1) (c .before .before .claim-line .ensures .0))))
 
--- src/lib.rt:68:1
 same-length : tie.Need-same-length Inv-loop μ-loop
 same-length c = wrote-length (c .before .loop .inv .1 .1)
 
--- src/lib.rt:68:1
 returns : tie.Need-returns Inv-loop μ-loop
 returns c =
     let all : c .before .loop .k ≡ c .before .before .before .before .args .claims = omega arith in

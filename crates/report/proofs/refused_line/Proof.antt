@@ -5,46 +5,34 @@ use Rattle.report.specs.Written.{wrote-on}
 use Rattle.report.specs.Lines.{refusedLine}
 use Rattle.report.proofs.refused_line.Statement.{statement}
 use Rattle.report.proofs.refused_line.Tie as tie
-use Rattle.report.proofs.refused_line.Reads as reads
-use Rattle.report.proofs.refused_line.Lts as lts
-use Rattle.report.proofs.text.put_part.Reads as put-part-reads
-use Rattle.report.proofs.text.put_words.Reads as put-words-reads
 
--- src/lib.rt:114:42
 slice-aggregate-put-part : tie.Need-slice-aggregate-put-part
 slice-aggregate-put-part c = search needs
 
--- src/lib.rt:114:9
 put-part-requires : tie.Need-put-part-requires
 put-part-requires c κs =
     let a = c .before .before .before .args in
     omega (arith, decimal-short 2 (a .refusal) (omega arith))
 
--- src/lib.rt:115:52
 slice-aggregate-put-part-2 : tie.Need-slice-aggregate-put-part-2
 slice-aggregate-put-part-2 c = search needs
 
--- src/lib.rt:115:9
 put-part-requires-2 : tie.Need-put-part-requires-2
 put-part-requires-2 c κs =
     let a = c .before .before .before .before .before .before .before .before .args in
-    omega (arith, decimal-short 2 (a .refusal) (omega arith), decimal-short 4 (a .place) (omega arith), c .before .before .before .before .put-part .ensures .past)
+    omega (arith, decimal-short 2 (a .refusal) (omega arith), decimal-short 4 (a .place) (omega arith))
 
--- src/lib.rt:116:33
 slice-aggregate-put-words : tie.Need-slice-aggregate-put-words
 slice-aggregate-put-words c = search needs
 
--- src/lib.rt:116:5
 put-words-requires : tie.Need-put-words-requires
 put-words-requires c κs =
     let a = c .before .before .before .before .before .before .before .before .before .before .before .before .before .args in
-    omega (arith, decimal-short 2 (a .refusal) (omega arith), decimal-short 4 (a .place) (omega arith), c .before .before .before .before .before .before .before .before .before .put-part .ensures .past, c .before .before .before .before .put-part2 .ensures .past)
+    omega (arith, decimal-short 2 (a .refusal) (omega arith), decimal-short 4 (a .place) (omega arith))
 
--- src/lib.rt:108:1
 same-length : tie.Need-same-length
 same-length c = search needs
 
--- src/lib.rt:108:1
 returns : tie.Need-returns
 unfolding refusedLine
 returns c =

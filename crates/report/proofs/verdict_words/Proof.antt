@@ -1,143 +1,108 @@
 use Prim.Native.Nat.{ℕ}
 use mathlib.Core.Path.{_≡_, refl, sym, _∙_}
 use native.Mathlib.Omega.{arith}
+use denote.Ref.{now}
 use borrow.Author.Needs.{needs}
 use borrow.Author.Tests.{ne-eqb}
-use denote.Ref.{now}
 use Rattle.report.specs.Lines.{codeIn, refutedAt, verdictWords}
 use Rattle.report.proofs.verdict_words.Statement.{statement}
 use Rattle.report.proofs.verdict_words.Tie as tie
-use Rattle.report.proofs.verdict_words.Reads as reads
-use Rattle.report.proofs.verdict_words.Lts as lts
-use Rattle.numbers.proofs.number1.Reads as number1-reads
-use Rattle.numbers.proofs.number4.Reads as number4-reads
-use Rattle.numbers.proofs.number8.Reads as number8-reads
-use Rattle.report.proofs.refuted_at.Reads as refuted-at-reads
-use Rattle.report.proofs.text.put_words.Reads as put-words-reads
 
--- src/lib.rt:41:18
 mul-record : tie.Need-mul-record
 mul-record c = search needs
 
--- src/lib.rt:42:11
 number1-requires : tie.Need-number1-requires
 number1-requires c κs = search needs
 
--- src/lib.rt:43:33
 slice-aggregate-put-words : tie.Need-slice-aggregate-put-words
 slice-aggregate-put-words c = search needs
 
--- src/lib.rt:43:14
 put-words-requires : tie.Need-put-words-requires
 put-words-requires c κs = search needs
 
--- src/lib.rt:47:31
 add-number4 : tie.Need-add-number4
 add-number4 c = search needs
 
--- src/lib.rt:47:13
 number4-requires : tie.Need-number4-requires
 number4-requires c κs = search needs
 
--- src/lib.rt:48:31
 add-number8 : tie.Need-add-number8
 add-number8 c = search needs
 
--- src/lib.rt:48:13
 number8-requires : tie.Need-number8-requires
 number8-requires c κs = search needs
 
--- src/lib.rt:49:31
 add-number8-2 : tie.Need-add-number8-2
 add-number8-2 c = search needs
 
--- src/lib.rt:49:13
 number8-requires-2 : tie.Need-number8-requires-2
 number8-requires-2 c κs = search needs
 
--- src/lib.rt:44:14
 refuted-at-requires : tie.Need-refuted-at-requires
 refuted-at-requires c κs = search needs
 
--- src/lib.rt:51:33
 slice-aggregate-put-words-2 : tie.Need-slice-aggregate-put-words-2
 slice-aggregate-put-words-2 c = search needs
 
--- src/lib.rt:51:14
 put-words-requires-2 : tie.Need-put-words-requires-2
 put-words-requires-2 c κs = search needs
 
--- src/lib.rt:52:33
 slice-aggregate-put-words-3 : tie.Need-slice-aggregate-put-words-3
 slice-aggregate-put-words-3 c = search needs
 
--- src/lib.rt:52:14
 put-words-requires-3 : tie.Need-put-words-requires-3
 put-words-requires-3 c κs = search needs
 
--- src/lib.rt:53:33
 slice-aggregate-put-words-4 : tie.Need-slice-aggregate-put-words-4
 slice-aggregate-put-words-4 c = search needs
 
--- src/lib.rt:53:14
 put-words-requires-4 : tie.Need-put-words-requires-4
 put-words-requires-4 c κs = search needs
 
--- src/lib.rt:35:1
 same-length : tie.Need-same-length
 same-length c = search needs
 
--- src/lib.rt:35:1
 returns : tie.Need-returns
 unfolding verdictWords
 returns c =
     let code = sym (c .before .before .before .before .before .before .number1 .ensures) ∙ c .before .before .before .before .before .match .keys1 in
-    (rw code (c .before .before .put-words .ensures), omega (arith, c .before .before .put-words .ensures .past))
+    (rw code (c .before .before .put-words .ensures), omega arith)
 
--- src/lib.rt:35:1
 same-length-2 : tie.Need-same-length-2
 same-length-2 c = search needs
 
--- src/lib.rt:35:1
 second : (tick left right : ℕ) → verdictWords 2 tick left right ≡ refutedAt tick left right
 unfolding verdictWords
 second tick left right = refl
 
 returns-2 : tie.Need-returns-2
 returns-2 c =
-    let code = sym (c .before .before .before .before .before .before .before .before .number1 .ensures) ∙ c .before .before .before .before .before .before .before .match .keys2 in
-    (
+    let code = sym (c .before .before .before .before .before .before .before .before .number1 .ensures) ∙ c .before .before .before .before .before .before .before .match .keys2 in (
       rw (code, second, ← (c .before .before .before .before .before .number4 .ensures), ← (c .before .before .before .before .number8 .ensures), ← (c .before .before .before .number82 .ensures)) (c .before .before .refuted-at .ensures .0),
       omega arith,
     )
 
--- src/lib.rt:35:1
 same-length-3 : tie.Need-same-length-3
 same-length-3 c = search needs
 
--- src/lib.rt:35:1
 returns-3 : tie.Need-returns-3
 unfolding verdictWords
 returns-3 c =
     let code = sym (c .before .before .before .before .before .before .number1 .ensures) ∙ c .before .before .before .before .before .match .keys3 in
-    (rw code (c .before .before .put-words2 .ensures), omega (arith, c .before .before .put-words2 .ensures .past))
+    (rw code (c .before .before .put-words2 .ensures), omega arith)
 
--- src/lib.rt:35:1
 same-length-4 : tie.Need-same-length-4
 same-length-4 c = search needs
 
--- src/lib.rt:35:1
 returns-4 : tie.Need-returns-4
 unfolding verdictWords
 returns-4 c =
     let code = sym (c .before .before .before .before .before .before .number1 .ensures) ∙ c .before .before .before .before .before .match .keys4 in
-    (rw code (c .before .before .put-words3 .ensures), omega (arith, c .before .before .put-words3 .ensures .past))
+    (rw code (c .before .before .put-words3 .ensures), omega arith)
 
--- src/lib.rt:35:1
 same-length-5 : tie.Need-same-length-5
 same-length-5 c = search needs
 
--- src/lib.rt:35:1
 returns-5 : tie.Need-returns-5
 unfolding verdictWords
 returns-5 c =
@@ -147,7 +112,7 @@ returns-5 c =
     let other = c .before .before .before .before .before .match .rest in (
       rw (ne-eqb code 1 (λ e. other .0 .0 .0 .1 (is ∙ e)), ne-eqb code 2 (λ e. other .0 .0 .1 (is ∙ e)), ne-eqb code 3 (λ e. other .0 .1 (is ∙ e)), ne-eqb code 4 (λ e. other .1 (is ∙ e)), verdictWords)
           (c .before .before .put-words4 .ensures),
-      omega (arith, c .before .before .put-words4 .ensures .past),
+      omega arith,
     )
 
 pub verdict-words-spec : {M : Type 1} → statement M

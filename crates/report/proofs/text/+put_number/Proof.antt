@@ -1,12 +1,11 @@
-use mathlib.Core.Path.{_≡_}
+use Prim.Native.Nat.{ℕ, _≤_, _<_}
 use native.Mathlib.Omega.{arith}
 use native.Mathlib.Nat.{mod-lt}
 use borrow.Author.Needs.{needs}
-use Rattle.report.specs.Text.{decimal-digit, decimal-more, decimal-some, length-more, fewer}
-use Rattle.report.specs.Written.{wrote-on, wrote-length}
-use Prim.Native.Nat.{ℕ, _≤_, _<_}
 use borrow.Fn.Kinds.{In}
 use borrow.Fn.PlainCycle.{Measures, is, falls, and}
+use Rattle.report.specs.Text.{decimal-digit, decimal-more, decimal-some, length-more, tenth-less}
+use Rattle.report.specs.Written.{wrote-on, wrote-length}
 use Rattle.report.proofs.text.put_number.Reads as put-number
 use Rattle.report.proofs.text.put_number.Kinds as put-number-kinds
 use Rattle.report.proofs.text.+put_number.Lts-put_number as put-number-lts
@@ -25,7 +24,6 @@ abbrev put-number-below : ℕ → In 1 put-number-kinds.ps
 put-number-below t =
     and 1 put-number-kinds.ps (falls 1 put-number-kinds.ps _<_ μ-put-number t) put-number.Pre
 
--- src/text.rt:34:41
 put-number-cast-put-byte : (t : ℕ) → put-number-lts.Need-cast-put-byte (
   put-byte-reads.Asked,
   put-byte-reads.Learnt,
@@ -34,7 +32,6 @@ put-number-cast-put-byte : (t : ℕ) → put-number-lts.Need-cast-put-byte (
 ) (put-number-at t) put-number.Post
 put-number-cast-put-byte t c = search needs
 
--- src/text.rt:34:34
 put-number-add-put-byte : (t : ℕ) → put-number-lts.Need-add-put-byte (
   put-byte-reads.Asked,
   put-byte-reads.Learnt,
@@ -43,7 +40,6 @@ put-number-add-put-byte : (t : ℕ) → put-number-lts.Need-add-put-byte (
 ) (put-number-at t) put-number.Post
 put-number-add-put-byte t c = search needs
 
--- src/text.rt:34:9
 put-number-put-byte-requires : (t : ℕ) → put-number-lts.Need-put-byte-requires (
   put-byte-reads.Asked,
   put-byte-reads.Learnt,
@@ -52,7 +48,6 @@ put-number-put-byte-requires : (t : ℕ) → put-number-lts.Need-put-byte-requir
 ) (put-number-at t) put-number.Post
 put-number-put-byte-requires t c κs = omega (arith, decimal-some (c .before .before .before .args .n))
 
--- src/text.rt:34:9
 put-number-same-length : (t : ℕ) → put-number-lts.Need-same-length (
   put-byte-reads.Asked,
   put-byte-reads.Learnt,
@@ -61,7 +56,6 @@ put-number-same-length : (t : ℕ) → put-number-lts.Need-same-length (
 ) (put-number-at t) put-number.Post
 put-number-same-length t c = wrote-length (c .before .before .put-byte .ensures)
 
--- src/text.rt:34:9
 put-number-returns : (t : ℕ) → put-number-lts.Need-returns (
   put-byte-reads.Asked,
   put-byte-reads.Learnt,
@@ -71,7 +65,6 @@ put-number-returns : (t : ℕ) → put-number-lts.Need-returns (
 put-number-returns t c =
     rw (decimal-digit (c .before .before .before .before .before .before .args .n) (omega arith)) (c .before .before .put-byte .ensures)
 
--- src/text.rt:36:9
 put-number-put-number-requires : (t : ℕ) → put-number-lts.Need-put-number-requires (
   put-byte-reads.Asked,
   put-byte-reads.Learnt,
@@ -81,9 +74,8 @@ put-number-put-number-requires : (t : ℕ) → put-number-lts.Need-put-number-re
 put-number-put-number-requires t c κs =
     let n = c .before .before .before .args .n in
     let high : 10 ≤ n = omega arith in
-    (omega (arith, fewer n high, c .before .before .before .pre .0), omega (arith, c .before .before .before .pre .1, length-more n high))
+    (omega (arith, tenth-less n high, c .before .before .before .pre .0), omega (arith, c .before .before .before .pre .1, length-more n high))
 
--- src/text.rt:37:32
 put-number-cast-put-byte-2 : (t : ℕ) → put-number-lts.Need-cast-put-byte-2 (
   put-byte-reads.Asked,
   put-byte-reads.Learnt,
@@ -92,7 +84,6 @@ put-number-cast-put-byte-2 : (t : ℕ) → put-number-lts.Need-cast-put-byte-2 (
 ) (put-number-at t) put-number.Post
 put-number-cast-put-byte-2 t c = omega (arith, mod-lt (c .before .before .before .before .before .before .before .args .n) {m = 10} (omega arith))
 
--- src/text.rt:37:25
 put-number-add-put-byte-2 : (t : ℕ) → put-number-lts.Need-add-put-byte-2 (
   put-byte-reads.Asked,
   put-byte-reads.Learnt,
@@ -101,7 +92,6 @@ put-number-add-put-byte-2 : (t : ℕ) → put-number-lts.Need-add-put-byte-2 (
 ) (put-number-at t) put-number.Post
 put-number-add-put-byte-2 t c = omega (arith, mod-lt (c .before .before .before .before .before .before .before .args .n) {m = 10} (omega arith))
 
--- src/text.rt:37:5
 put-number-put-byte-requires-2 : (t : ℕ) → put-number-lts.Need-put-byte-requires-2 (
   put-byte-reads.Asked,
   put-byte-reads.Learnt,
@@ -114,7 +104,6 @@ put-number-put-byte-requires-2 t c κs =
     let w = c .before .before .before .put-number .ensures in
     omega (arith, start .pre .1, length-more (start .args .n) high, w .past, wrote-length w)
 
--- src/text.rt:29:1
 put-number-same-length-2 : (t : ℕ) → put-number-lts.Need-same-length-2 (
   put-byte-reads.Asked,
   put-byte-reads.Learnt,
@@ -123,7 +112,6 @@ put-number-same-length-2 : (t : ℕ) → put-number-lts.Need-same-length-2 (
 ) (put-number-at t) put-number.Post
 put-number-same-length-2 t c = wrote-length (wrote-on (c .before .before .before .before .before .before .put-number .ensures) (c .before .before .put-byte2 .ensures))
 
--- src/text.rt:29:1
 put-number-returns-2 : (t : ℕ) → put-number-lts.Need-returns-2 (
   put-byte-reads.Asked,
   put-byte-reads.Learnt,

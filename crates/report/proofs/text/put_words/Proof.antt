@@ -1,6 +1,5 @@
 use Prim.Native.Nat.{_-_, _≤_}
 use native.Mathlib.Omega.{arith}
-use borrow.Author.Needs.{needs}
 use native.Mathlib.Numerals.{add-one}
 use lib.ListN.{length, take}
 use lib.Seq.{length-take-le, take-suc, take-all}
@@ -8,9 +7,6 @@ use denote.Ref.{now}
 use Rattle.report.specs.Written.{Wrote, wrote-nothing, wrote-on, wrote-length}
 use Rattle.report.proofs.text.put_words.Statement.{statement}
 use Rattle.report.proofs.text.put_words.Tie as tie
-use Rattle.report.proofs.text.put_words.Reads as reads
-use Rattle.report.proofs.text.put_words.Lts as lts
-use Rattle.report.proofs.text.put_byte.Reads as put-byte-reads
 
 abbrev Inv-loop : tie.InvT-loop
 Inv-loop out₀ at words next₀ k₀ out next k = (k ≤ length words) × Wrote out₀ at (take k words) out next
@@ -18,40 +14,32 @@ Inv-loop out₀ at words next₀ k₀ out next k = (k ≤ length words) × Wrote
 abbrev μ-loop : tie.MeasureT-loop
 μ-loop out₀ at words next₀ k₀ out next k = length words - k
 
--- src/text.rt:22:5
 loop-holds : tie.Need-loop-holds Inv-loop μ-loop
 loop-holds c = (omega arith, wrote-nothing _ _ (omega arith))
 
--- src/text.rt:23:36
 shared-slice-read-put-byte : tie.Need-shared-slice-read-put-byte Inv-loop μ-loop
 shared-slice-read-put-byte c = omega arith
 
--- src/text.rt:23:9
 put-byte-requires : tie.Need-put-byte-requires Inv-loop μ-loop
 put-byte-requires c κs =
     let w = c .before .before .before .loop .inv in
     omega (arith, w .1 .past, wrote-length (w .1), length-take-le (c .before .before .before .loop .k) (now (c .before .before .before .before .before .before .args .words)) (w .0))
 
--- src/text.rt:24:9
 add-k : tie.Need-add-k Inv-loop μ-loop
 add-k c = omega arith
 
--- src/text.rt:22:5
 loop-less : tie.Need-loop-less Inv-loop μ-loop
 loop-less c = omega arith
 
--- src/text.rt:22:5
 loop-again : tie.Need-loop-again Inv-loop μ-loop
 loop-again c =
     let at-k = c .before .before .before .before .before .before .loop in
     let words = now (c .before .before .before .before .before .before .before .before .before .args .words) in
     (omega arith, rw (add-one (at-k .k), take-suc words (at-k .k) 0 (omega arith)) (wrote-on (at-k .inv .1) (c .before .before .put-byte .ensures)))
 
--- src/text.rt:16:1
 same-length : tie.Need-same-length Inv-loop μ-loop
 same-length c = wrote-length (c .before .loop .inv .1)
 
--- src/text.rt:16:1
 returns : tie.Need-returns Inv-loop μ-loop
 returns c =
     let words = now (c .before .before .before .before .args .words) in
