@@ -12,7 +12,7 @@ use mathlib.Core.List.{List, [], _∷_, _++_}
 use lib.ListN.{length, replicate}
 use Rattle.numbers.specs.Numbers.{numberAt}
 use Rattle.numbers.specs.Put.{bytesOf}
-use Rattle.report.specs.Text.{bytes}
+use Rattle.report.specs.Text.{bytes, decimal}
 use Rattle.report.specs.Lines.{answerWith, part, verdictWords, claimLine, reportOf, maxLine}
 
 -- "A record is 21 bytes: code, tick (4 bytes), left value (8), right value (8)"
@@ -20,27 +20,27 @@ abbrev record-of : ℕ → ℕ → ℕ → ℕ → List ℕ
 record-of code tick left right = bytesOf 1 code ++ bytesOf 4 tick ++ bytesOf 8 left ++ bytesOf 8 right
 
 pub w8-lines : reportOf (answerWith 0 0 1 0 0) (1 ∷ replicate 20 0) ≡ bytes "claim 0 accepted\ntotal 1 accepted 1 refuted 0 unjudged 0\ncertified yes\n"
-unfolding reportOf numberAt
+unfolding reportOf decimal numberAt
 w8-lines = refl
 
 pub empty-lines : reportOf (answerWith 1 0 0 0 0) [] ≡ bytes "refused 1 at 0\n"
-unfolding reportOf
+unfolding reportOf decimal
 empty-lines = refl
 
 pub no-claims : reportOf (answerWith 0 0 0 0 0) [] ≡ bytes "total 0 accepted 0 refuted 0 unjudged 0\ncertified no\n"
-unfolding reportOf
+unfolding reportOf decimal
 no-claims = refl
 
 pub each-verdict : reportOf (answerWith 0 0 1 3 1) (record-of 1 0 0 0 ++ record-of 2 6 7 8 ++ record-of 3 0 0 0 ++ record-of 4 0 0 0 ++ record-of 5 0 0 0)
     ≡ bytes "claim 0 accepted\nclaim 1 refuted at 6 left 7 right 8\nclaim 2 refuted by rate\nclaim 3 refuted not least\nclaim 4 not judged\n"
     ++ bytes "total 5 accepted 1 refuted 3 unjudged 1\ncertified no\n"
-unfolding reportOf numberAt bytesOf
+unfolding reportOf decimal numberAt bytesOf
 each-verdict = refl
 
 pub other-code : claimLine (record-of 1 0 0 0 ++ record-of 6 0 0 0) 1 ≡ bytes "claim 1 not judged\n"
-unfolding claimLine numberAt bytesOf
+unfolding claimLine decimal numberAt bytesOf
 other-code = refl
 
 pub longest-line : length (part "claim " (2 * (2 ^ 12 - 1) + (2 ^ 16 - 1) - 1) ++ verdictWords 2 (2 ^ 32 - 1) (2 ^ 64 - 1) (2 ^ 64 - 1)) ≡ maxLine
-unfolding part verdictWords
+unfolding part verdictWords decimal
 longest-line = refl

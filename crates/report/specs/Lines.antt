@@ -66,8 +66,9 @@ rightIn verdicts k = numberAt 8 verdicts (recordSize * k + 13)
 
 -- ---- the lines
 
+-- where a line is opened its numbers stay shut
 unfoldable pub part : String → ℕ → List ℕ
-unfolding bytes decimal
+unfolding bytes
 part words n = bytes words ++ decimal n
 
 -- "claim K refuted at N left V right W", after `claim K`

@@ -23,7 +23,7 @@ returns : tie.Need-returns
 returns c =
     let a = c .before .before .before .args in
     let s = now (a .out) in
-    wrote-first (wrote-nothing s 0 (omega arith)) (report-short (length s) (a .answer) (now (a .verdicts)) (omega arith))
+    wrote-first (wrote-nothing s 0 (omega arith)) (report-short (length s) (a .answer) (now (a .verdicts)) (c .if1 .taken))
 
 refused-line-requires : tie.Need-refused-line-requires
 refused-line-requires c κs = search needs
@@ -35,7 +35,7 @@ returns-2 : tie.Need-returns-2
 returns-2 c =
     let a = c .before .before .before .before .before .before .before .before .args in
     wrote-first (c .before .before .refused-line .ensures)
-    (report-refused (length (now (a .out))) (a .answer) (now (a .verdicts)) (omega arith) (c .before .before .before .before .if2 .taken))
+    (report-refused (length (now (a .out))) (a .answer) (now (a .verdicts)) (c .before .before .before .before .before .if1 .left) (c .before .before .before .before .if2 .taken))
 
 claim-lines-requires : tie.Need-claim-lines-requires
 claim-lines-requires c κs = search needs
@@ -53,7 +53,7 @@ returns-3 : tie.Need-returns-3
 returns-3 c =
     let a = c .before .before .before .before .before .before .before .before .before .before .before .before .before .before .before .before .args in
     wrote-first (wrote-on (wrote-on (c .before .before .before .before .before .before .before .before .before .before .claim-lines .ensures .0) (c .before .before .before .before .before .before .total-line .ensures .0)) (c .before .before .certified-line .ensures))
-    (report-judged (length (now (a .out))) (a .answer) (now (a .verdicts)) (omega arith) (c .before .before .before .before .before .before .before .before .before .before .before .before .if2 .left))
+    (report-judged (length (now (a .out))) (a .answer) (now (a .verdicts)) (c .before .before .before .before .before .before .before .before .before .before .before .before .before .if1 .left) (c .before .before .before .before .before .before .before .before .before .before .before .before .if2 .left))
 
 pub report-spec : {M : Type 1} → statement M
 report-spec =

@@ -65,7 +65,8 @@ same-length c = search needs
 returns : tie.Need-returns
 unfolding verdictWords
 returns c =
-    let code = sym (c .before .before .before .before .before .before .number1 .ensures) ∙ c .before .before .before .before .before .match .keys1 in
+    let a = c .before .before .before .before .before .before .before .before .before .args in
+    let code : codeIn (now (a .verdicts)) (a .k) ≡ 1 = sym (c .before .before .before .before .before .before .number1 .ensures) ∙ c .before .before .before .before .before .match .keys1 in
     (rw code (c .before .before .put-words .ensures), omega arith)
 
 same-length-2 : tie.Need-same-length-2
@@ -77,7 +78,8 @@ second tick left right = refl
 
 returns-2 : tie.Need-returns-2
 returns-2 c =
-    let code = sym (c .before .before .before .before .before .before .before .before .number1 .ensures) ∙ c .before .before .before .before .before .before .before .match .keys2 in (
+    let a = c .before .before .before .before .before .before .before .before .before .before .before .args in
+    let code : codeIn (now (a .verdicts)) (a .k) ≡ 2 = sym (c .before .before .before .before .before .before .before .before .number1 .ensures) ∙ c .before .before .before .before .before .before .before .match .keys2 in (
       rw (code, second, ← (c .before .before .before .before .before .number4 .ensures), ← (c .before .before .before .before .number8 .ensures), ← (c .before .before .before .number82 .ensures)) (c .before .before .refuted-at .ensures .0),
       omega arith,
     )
@@ -88,7 +90,8 @@ same-length-3 c = search needs
 returns-3 : tie.Need-returns-3
 unfolding verdictWords
 returns-3 c =
-    let code = sym (c .before .before .before .before .before .before .number1 .ensures) ∙ c .before .before .before .before .before .match .keys3 in
+    let a = c .before .before .before .before .before .before .before .before .before .args in
+    let code : codeIn (now (a .verdicts)) (a .k) ≡ 3 = sym (c .before .before .before .before .before .before .number1 .ensures) ∙ c .before .before .before .before .before .match .keys3 in
     (rw code (c .before .before .put-words2 .ensures), omega arith)
 
 same-length-4 : tie.Need-same-length-4
@@ -97,7 +100,8 @@ same-length-4 c = search needs
 returns-4 : tie.Need-returns-4
 unfolding verdictWords
 returns-4 c =
-    let code = sym (c .before .before .before .before .before .before .number1 .ensures) ∙ c .before .before .before .before .before .match .keys4 in
+    let a = c .before .before .before .before .before .before .before .before .before .args in
+    let code : codeIn (now (a .verdicts)) (a .k) ≡ 4 = sym (c .before .before .before .before .before .before .number1 .ensures) ∙ c .before .before .before .before .before .match .keys4 in
     (rw code (c .before .before .put-words3 .ensures), omega arith)
 
 same-length-5 : tie.Need-same-length-5
@@ -106,8 +110,8 @@ same-length-5 c = search needs
 returns-5 : tie.Need-returns-5
 unfolding verdictWords
 returns-5 c =
-    let start = c .before .before .before .before .before .before .before .before .before in
-    let code = codeIn (now (start .args .verdicts)) (start .args .k) in
+    let a = c .before .before .before .before .before .before .before .before .before .args in
+    let code = codeIn (now (a .verdicts)) (a .k) in
     let is : c .before .before .before .before .before .before .number1 .result ≡ code = c .before .before .before .before .before .before .number1 .ensures in
     let other = c .before .before .before .before .before .match .rest in (
       rw (ne-eqb code 1 (λ e. other .0 .0 .0 .1 (is ∙ e)), ne-eqb code 2 (λ e. other .0 .0 .1 (is ∙ e)), ne-eqb code 3 (λ e. other .0 .1 (is ∙ e)), ne-eqb code 4 (λ e. other .1 (is ∙ e)), verdictWords)
