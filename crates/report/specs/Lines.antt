@@ -3,7 +3,7 @@
 --     refusalIn, placeIn, acceptedIn, refutedIn, unjudgedIn     the parts of an answer; claimsIn: the three totals together
 --     answerWith          an answer from its parts; answer-parts: they are its parts
 --     codeIn, tickIn, leftIn, rightIn     the record of a claim
---     part w n            words and the number after them
+--     part w n            words and the number after them; lastPart: and the end of the line
 --     claimLine, totalLine, certifiedLine, refusedLine     the lines; claimLines: those of the first claims
 --     verdictWords        a claim's line after `claim K`, by its record's numbers; wordsIn: by its record; refutedAt: code 2
 --     reportOf            the whole text
@@ -71,10 +71,15 @@ unfoldable pub part : String → ℕ → List ℕ
 unfolding bytes
 part words n = bytes words ++ decimal n
 
+-- the last of a line
+unfoldable pub lastPart : String → ℕ → List ℕ
+unfolding part bytes
+lastPart words n = part words n ++ bytes "\n"
+
 -- "claim K refuted at N left V right W", after `claim K`
 unfoldable pub refutedAt : ℕ → ℕ → ℕ → List ℕ
-unfolding part bytes
-refutedAt tick left right = part " refuted at " tick ++ part " left " left ++ part " right " right ++ bytes "\n"
+unfolding part lastPart
+refutedAt tick left right = part " refuted at " tick ++ part " left " left ++ lastPart " right " right
 
 -- the words after `claim K`, by the record's code: 5, and a code that no verdict has, are not judged
 unfoldable pub verdictWords : ℕ → ℕ → ℕ → ℕ → List ℕ
@@ -99,9 +104,9 @@ claimLines verdicts zero = []
 claimLines verdicts (suc k) = claimLines verdicts k ++ claimLine verdicts k
 
 unfoldable pub totalLine : ℕ → ℕ → ℕ → List ℕ
-unfolding part bytes
+unfolding part lastPart
 totalLine accepted refuted unjudged =
-    part "total " (accepted + refuted + unjudged) ++ part " accepted " accepted ++ part " refuted " refuted ++ part " unjudged " unjudged ++ bytes "\n"
+    part "total " (accepted + refuted + unjudged) ++ part " accepted " accepted ++ part " refuted " refuted ++ lastPart " unjudged " unjudged
 
 -- "yes exactly when there is at least one claim and all are accepted"
 unfoldable pub certifiedLine : ℕ → ℕ → List ℕ
@@ -109,8 +114,8 @@ unfolding bytes
 certifiedLine claims accepted = cond (leb 1 claims && eqb accepted claims) (bytes "certified yes\n") (bytes "certified no\n")
 
 unfoldable pub refusedLine : ℕ → ℕ → List ℕ
-unfolding part bytes
-refusedLine refusal place = part "refused " refusal ++ part " at " place ++ bytes "\n"
+unfolding part lastPart
+refusedLine refusal place = part "refused " refusal ++ lastPart " at " place
 
 unfoldable pub reportOf : ℕ → List ℕ → List ℕ
 unfolding claimLines totalLine certifiedLine refusedLine

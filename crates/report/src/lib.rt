@@ -8,6 +8,7 @@ ghost use Rattle.report.specs.Written.{Wrote};
 use numbers::number1;
 use numbers::number4;
 use numbers::number8;
+use text::put_last_part;
 use text::put_part;
 use text::put_words;
 
@@ -26,8 +27,7 @@ fn refuted_at(out: &mut [u8], at: usize, tick: u32, left: u64, right: u64) -> us
 {
     let after_tick = put_part(out, at, b" refuted at ", tick as u64);
     let after_left = put_part(out, after_tick, b" left ", left);
-    let after_right = put_part(out, after_left, b" right ", right);
-    put_words(out, after_right, b"\n")
+    put_last_part(out, after_left, b" right ", right)
 }
 
 // A code that no verdict has is not judged.
@@ -87,8 +87,7 @@ fn total_line(out: &mut [u8], at: usize, accepted: u64, refuted: u64, unjudged: 
     let after_claims = put_part(out, at, b"total ", accepted + refuted + unjudged);
     let after_accepted = put_part(out, after_claims, b" accepted ", accepted);
     let after_refuted = put_part(out, after_accepted, b" refuted ", refuted);
-    let after_unjudged = put_part(out, after_refuted, b" unjudged ", unjudged);
-    put_words(out, after_unjudged, b"\n")
+    put_last_part(out, after_refuted, b" unjudged ", unjudged)
 }
 
 fn certified_line(out: &mut [u8], at: usize, claims: u64, accepted: u64) -> usize
@@ -110,8 +109,7 @@ fn refused_line(out: &mut [u8], refusal: u64, place: u64) -> usize
     ensures { λ r. ⌜ Wrote (now (out .entry)) 0 (refusedLine refusal place) (now (out .exit)) r ⌝ }
 {
     let after_refusal = put_part(out, 0, b"refused ", refusal);
-    let after_place = put_part(out, after_refusal, b" at ", place);
-    put_words(out, after_place, b"\n")
+    put_last_part(out, after_refusal, b" at ", place)
 }
 
 // Where `out` has no room for as many lines of the longest kind, nothing is written and the answer is 0. A record that the verdict buffer

@@ -45,3 +45,12 @@ pub(crate) fn put_part(out: &mut [u8], at: usize, words: &[u8], n: u64) -> usize
     let next = put_words(out, at, words);
     put_number(out, next, n)
 }
+
+// The same at the end of a line.
+pub(crate) fn put_last_part(out: &mut [u8], at: usize, words: &[u8], n: u64) -> usize
+    requires { ⌜ at + length (now words) + length (decimal n) < length (now out) ⌝ }
+    ensures { λ r. ⌜ Wrote (now (out .entry)) at (now (words .entry) ++ decimal n ++ (10 ∷ [])) (now (out .exit)) r ⌝ }
+{
+    let end = put_part(out, at, words, n);
+    put_byte(out, end, b'\n')
+}

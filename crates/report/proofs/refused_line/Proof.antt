@@ -14,20 +14,12 @@ put-part-requires c κs =
     let a = c .before .before .before .args in
     omega (arith, decimal-short 2 (a .refusal) (omega arith))
 
-slice-aggregate-put-part-2 : tie.Need-slice-aggregate-put-part-2
-slice-aggregate-put-part-2 c = search needs
+slice-aggregate-put-last-part : tie.Need-slice-aggregate-put-last-part
+slice-aggregate-put-last-part c = search needs
 
-put-part-requires-2 : tie.Need-put-part-requires-2
-put-part-requires-2 c κs =
+put-last-part-requires : tie.Need-put-last-part-requires
+put-last-part-requires c κs =
     let a = c .before .before .before .before .before .before .before .before .args in
-    omega (arith, decimal-short 2 (a .refusal) (omega arith), decimal-short 4 (a .place) (omega arith))
-
-slice-aggregate-put-words : tie.Need-slice-aggregate-put-words
-slice-aggregate-put-words c = search needs
-
-put-words-requires : tie.Need-put-words-requires
-put-words-requires c κs =
-    let a = c .before .before .before .before .before .before .before .before .before .before .before .before .before .args in
     omega (arith, decimal-short 2 (a .refusal) (omega arith), decimal-short 4 (a .place) (omega arith))
 
 same-length : tie.Need-same-length
@@ -35,10 +27,7 @@ same-length c = search needs
 
 returns : tie.Need-returns
 unfolding refusedLine
-returns c =
-    let at-place = c .before .before .before .before .before .before .before in
-    let at-refusal = at-place .before .before .before .before .before in
-    wrote-on (wrote-on (at-refusal .put-part .ensures) (at-place .put-part2 .ensures)) (c .before .before .put-words .ensures)
+returns c = wrote-on (c .before .before .before .before .before .before .before .put-part .ensures) (c .before .before .put-last-part .ensures)
 
 pub refused-line-spec : {M : Type 1} → statement M
 refused-line-spec =
@@ -46,9 +35,7 @@ refused-line-spec =
     (tie.spec
     slice-aggregate-put-part
     put-part-requires
-    slice-aggregate-put-part-2
-    put-part-requires-2
-    slice-aggregate-put-words
-    put-words-requires
+    slice-aggregate-put-last-part
+    put-last-part-requires
     same-length
     returns)

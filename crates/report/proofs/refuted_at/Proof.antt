@@ -1,5 +1,8 @@
+use mathlib.Core.List.{[], _∷_}
 use native.Mathlib.Omega.{arith}
+use lib.ListN.{length-append}
 use borrow.Author.Needs.{needs}
+use Rattle.report.specs.Text.{decimal}
 use Rattle.report.specs.Written.{wrote-on}
 use Rattle.report.specs.Lines.{refutedAt, refuted-short}
 use Rattle.report.proofs.refuted_at.Statement.{statement}
@@ -21,20 +24,12 @@ put-part-requires-2 c κs =
     let a = c .before .before .before .before .before .before .before .before .args in
     omega (arith, refuted-short (a .tick) (a .left) (a .right) (omega arith) (omega arith) (omega arith))
 
-slice-aggregate-put-part-3 : tie.Need-slice-aggregate-put-part-3
-slice-aggregate-put-part-3 c = search needs
+slice-aggregate-put-last-part : tie.Need-slice-aggregate-put-last-part
+slice-aggregate-put-last-part c = search needs
 
-put-part-requires-3 : tie.Need-put-part-requires-3
-put-part-requires-3 c κs =
+put-last-part-requires : tie.Need-put-last-part-requires
+put-last-part-requires c κs =
     let a = c .before .before .before .before .before .before .before .before .before .before .before .before .before .args in
-    omega (arith, refuted-short (a .tick) (a .left) (a .right) (omega arith) (omega arith) (omega arith))
-
-slice-aggregate-put-words : tie.Need-slice-aggregate-put-words
-slice-aggregate-put-words c = search needs
-
-put-words-requires : tie.Need-put-words-requires
-put-words-requires c κs =
-    let a = c .before .before .before .before .before .before .before .before .before .before .before .before .before .before .before .before .before .before .args in
     omega (arith, refuted-short (a .tick) (a .left) (a .right) (omega arith) (omega arith) (omega arith))
 
 same-length : tie.Need-same-length
@@ -43,12 +38,11 @@ same-length c = search needs
 returns : tie.Need-returns
 unfolding refutedAt
 returns c =
-    let at-right = c .before .before .before .before .before .before .before in
-    let at-left = at-right .before .before .before .before .before in
+    let at-left = c .before .before .before .before .before .before .before in
     let at-tick = at-left .before .before .before .before .before in
     let a = at-tick .before .before .before .before .args in (
-      wrote-on (wrote-on (wrote-on (at-tick .put-part .ensures) (at-left .put-part2 .ensures)) (at-right .put-part3 .ensures)) (c .before .before .put-words .ensures),
-      omega (arith, refuted-short (a .tick) (a .left) (a .right) (omega arith) (omega arith) (omega arith)),
+      wrote-on (wrote-on (at-tick .put-part .ensures) (at-left .put-part2 .ensures)) (c .before .before .put-last-part .ensures),
+      omega (arith, refuted-short (a .tick) (a .left) (a .right) (omega arith) (omega arith) (omega arith), length-append (decimal (a .right)) (10 ∷ [])),
     )
 
 pub refuted-at-spec : {M : Type 1} → statement M
@@ -59,9 +53,7 @@ refuted-at-spec =
     put-part-requires
     slice-aggregate-put-part-2
     put-part-requires-2
-    slice-aggregate-put-part-3
-    put-part-requires-3
-    slice-aggregate-put-words
-    put-words-requires
+    slice-aggregate-put-last-part
+    put-last-part-requires
     same-length
     returns)

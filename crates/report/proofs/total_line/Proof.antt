@@ -1,5 +1,8 @@
+use mathlib.Core.List.{[], _∷_}
 use native.Mathlib.Omega.{arith}
+use lib.ListN.{length-append}
 use borrow.Author.Needs.{needs}
+use Rattle.report.specs.Text.{decimal}
 use Rattle.report.specs.Written.{wrote-on}
 use Rattle.report.specs.Lines.{totalLine, total-short}
 use Rattle.report.proofs.total_line.Statement.{statement}
@@ -15,36 +18,25 @@ add-put-part-2 : tie.Need-add-put-part-2
 add-put-part-2 c = search needs
 
 put-part-requires : tie.Need-put-part-requires
-put-part-requires c κs =
-    omega (arith, total-short (c .before .before .before .pre .1))
+put-part-requires c κs = omega (arith, total-short (c .before .before .before .pre .1))
 
 slice-aggregate-put-part-2 : tie.Need-slice-aggregate-put-part-2
 slice-aggregate-put-part-2 c = search needs
 
 put-part-requires-2 : tie.Need-put-part-requires-2
-put-part-requires-2 c κs =
-    omega (arith, total-short (c .before .before .before .before .before .before .before .before .pre .1))
+put-part-requires-2 c κs = omega (arith, total-short (c .before .before .before .before .before .before .before .before .pre .1))
 
 slice-aggregate-put-part-3 : tie.Need-slice-aggregate-put-part-3
 slice-aggregate-put-part-3 c = search needs
 
 put-part-requires-3 : tie.Need-put-part-requires-3
-put-part-requires-3 c κs =
-    omega (arith, total-short (c .before .before .before .before .before .before .before .before .before .before .before .before .before .pre .1))
+put-part-requires-3 c κs = omega (arith, total-short (c .before .before .before .before .before .before .before .before .before .before .before .before .before .pre .1))
 
-slice-aggregate-put-part-4 : tie.Need-slice-aggregate-put-part-4
-slice-aggregate-put-part-4 c = search needs
+slice-aggregate-put-last-part : tie.Need-slice-aggregate-put-last-part
+slice-aggregate-put-last-part c = search needs
 
-put-part-requires-4 : tie.Need-put-part-requires-4
-put-part-requires-4 c κs =
-    omega (arith, total-short (c .before .before .before .before .before .before .before .before .before .before .before .before .before .before .before .before .before .before .pre .1))
-
-slice-aggregate-put-words : tie.Need-slice-aggregate-put-words
-slice-aggregate-put-words c = search needs
-
-put-words-requires : tie.Need-put-words-requires
-put-words-requires c κs =
-    omega (arith, total-short (c .before .before .before .before .before .before .before .before .before .before .before .before .before .before .before .before .before .before .before .before .before .before .before .pre .1))
+put-last-part-requires : tie.Need-put-last-part-requires
+put-last-part-requires c κs = omega (arith, total-short (c .before .before .before .before .before .before .before .before .before .before .before .before .before .before .before .before .before .before .pre .1))
 
 same-length : tie.Need-same-length
 same-length c = search needs
@@ -52,15 +44,11 @@ same-length c = search needs
 returns : tie.Need-returns
 unfolding totalLine
 returns c =
-    let at-unjudged = c .before .before .before .before .before .before .before in
-    let at-refuted = at-unjudged .before .before .before .before .before in
+    let at-refuted = c .before .before .before .before .before .before .before in
     let at-accepted = at-refuted .before .before .before .before .before in
-    let at-claims = at-accepted .before .before .before .before .before in
-    let parts =
-    wrote-on (wrote-on (wrote-on (at-claims .put-part .ensures) (at-accepted .put-part2 .ensures)) (at-refuted .put-part3 .ensures))
-    (at-unjudged .put-part4 .ensures) in (
-      wrote-on parts (c .before .before .put-words .ensures),
-      omega (arith, total-short (at-claims .before .before .before .before .pre .1)),
+    let at-claims = at-accepted .before .before .before .before .before in (
+      wrote-on (wrote-on (wrote-on (at-claims .put-part .ensures) (at-accepted .put-part2 .ensures)) (at-refuted .put-part3 .ensures)) (c .before .before .put-last-part .ensures),
+      omega (arith, total-short (at-claims .before .before .before .before .pre .1), length-append (decimal (at-claims .before .before .before .before .args .unjudged)) (10 ∷ [])),
     )
 
 pub total-line-spec : {M : Type 1} → statement M
@@ -75,9 +63,7 @@ total-line-spec =
     put-part-requires-2
     slice-aggregate-put-part-3
     put-part-requires-3
-    slice-aggregate-put-part-4
-    put-part-requires-4
-    slice-aggregate-put-words
-    put-words-requires
+    slice-aggregate-put-last-part
+    put-last-part-requires
     same-length
     returns)
