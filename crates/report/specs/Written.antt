@@ -2,7 +2,7 @@
 --
 --     Wrote s at t s′ next     s′ is s with t over it from at on, where t has room, and next is the place after t
 --     wrote-nothing, wrote-byte, wrote-on     nothing; one byte; one text after the other
---     wrote-first              what is written from the first byte on
+--     wrote-first              of what is written from the first byte on, the place after it is its length
 --     wrote-length             as many bytes as before
 use Prim.Native.Nat.{ℕ, suc, _+_, _≤_, _<_}
 use mathlib.Core.Path.{_≡_, refl, sym, ap, _∙_}
@@ -11,7 +11,8 @@ use native.Mathlib.Omega.{arith}
 use native.Mathlib.Nat.{zero-add}
 use native.Mathlib.Numerals.{add-one}
 use lib.ListN.{length, take, drop, set, length-append}
-use lib.Seq.{append-snoc, set-split}
+use lib.Seq.{append-snoc, length-take-le, set-split}
+use Rattle.io.specs.Counts.{Counts}
 use Rattle.numbers.specs.Put.{put, put-nothing, put-put, length-put}
 
 pub record Wrote (s : List ℕ) (at : ℕ) (t s′ : List ℕ) (next : ℕ) : Type 0 where
@@ -45,5 +46,7 @@ module _ {s : List ℕ} {at : ℕ} {t s′ : List ℕ} {next : ℕ} where
       }
 
 -- written from the first byte on
-pub wrote-first : {s t s′ u : List ℕ} {next : ℕ} → Wrote s 0 t s′ next → u ≡ t → (next ≡ length u) × (s′ ≡ put s 0 u)
-wrote-first {t = t} w e = rw e (w .past ∙ zero-add (length t), w .held)
+pub wrote-first : {s t s′ u : List ℕ} {next : ℕ} → Wrote s 0 t s′ next → u ≡ t → Counts next s′ × ((next ≡ length u) × (s′ ≡ put s 0 u))
+wrote-first {s} {t} {s′} {next = next} w e =
+    let inside : next ≤ length s′ = omega (arith, w .past, w .fits, wrote-length w) in
+    ((inside, sym (length-take-le next s′ inside)), rw e (w .past ∙ zero-add (length t), w .held))

@@ -2,6 +2,7 @@
 ghost use Prim.Native.Nat.{_+_, _*_, _^_, _≤_, _<_};
 ghost use mathlib.Core.Path.{_≡_};
 ghost use lib.ListN.{length};
+ghost use Rattle.io.specs.Counts.{Counts};
 ghost use Rattle.numbers.specs.Put.{put};
 ghost use Rattle.report.specs.Lines.{maxLine, maxWords, Totals, refutedAt, wordsIn, claimLine, claimLines, totalLine, certifiedLine, refusedLine, reportIn};
 ghost use Rattle.report.specs.Written.{Wrote};
@@ -115,6 +116,7 @@ fn refused_line(out: &mut [u8], refusal: u64, place: u64) -> usize
 // Where `out` has no room for as many lines of the longest kind, nothing is written and the answer is 0. A record that the verdict buffer
 // does not have reads as not judged.
 pub fn report(answer: u64, verdicts: &[u8], out: &mut [u8]) -> usize
+    ensures { λ r. ⌜ Counts r (now (out .exit)) ⌝ }
     ensures { λ r. ⌜ r ≡ length (reportIn (length (now (out .entry))) answer (now (verdicts .entry))) ⌝ }
     ensures { λ _. ⌜ now (out .exit) ≡ put (now (out .entry)) 0 (reportIn (length (now (out .entry))) answer (now (verdicts .entry))) ⌝ }
 {
