@@ -1,2 +1,3 @@
 -- What the program writes.
 pub mod Answered
+pub mod Ground
