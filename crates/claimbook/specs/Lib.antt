@@ -1,3 +1,4 @@
 -- What the program writes.
+pub mod Records
 pub mod Answered
 pub mod Ground

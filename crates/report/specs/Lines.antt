@@ -12,9 +12,10 @@
 --     Totals              what the totals of an answer can be
 --     refuted-short, total-short     how many digits the numbers of a line can have
 --     report-short, report-refused, report-judged     reportIn, by its tests
+--     with-refusal, with-totals     the same for an answer put together from its parts
 use Prim.Native.Nat.{ℕ, zero, suc, _+_, _*_, _/_, _%_, _^_, _≤_, _<_}
 use Prim.Native.String.{String}
-use mathlib.Core.Path.{_≡_}
+use mathlib.Core.Path.{_≡_, sym, ap₂, subst, _∙_}
 use mathlib.Core.Bool.{_&&_, cond}
 use mathlib.Core.List.{List, [], _++_}
 use native.Mathlib.Omega.{arith}
@@ -179,3 +180,22 @@ module _ (room answer : ℕ) (verdicts : List ℕ) where
         ≡ claimLines verdicts (claimsIn answer) ++ totalLine (acceptedIn answer) (refutedIn answer) (unjudgedIn answer) ++ certifiedLine (claimsIn answer) (acceptedIn answer)
     unfolding reportIn
     report-judged judged = rw (le-ltb _ _ roomy, eq-eqb _ _ judged, reportIn)
+
+-- an answer put together from its parts
+module _ (room : ℕ) (verdicts : List ℕ) (n p a r u : ℕ) (few-n : n < 2 ^ 8) (few-p : p < 2 ^ 16) (few : Totals a r u) (roomy : maxLine * (a + r + u + 2) ≤ room) where
+  parts : (refusalIn (answerWith n p a r u) ≡ n) × (placeIn (answerWith n p a r u) ≡ p)
+      × (acceptedIn (answerWith n p a r u) ≡ a) × (refutedIn (answerWith n p a r u) ≡ r) × (unjudgedIn (answerWith n p a r u) ≡ u)
+  parts = answer-parts n p a r u few-n few-p (few .few-accepted) (few .few-refuted)
+
+  has-room : maxLine * (claimsIn (answerWith n p a r u) + 2) ≤ room
+  has-room = subst (λ (m : ℕ). maxLine * (m + 2) ≤ room) (sym (λ i. parts .2 i + parts .3 i + parts .4 i)) roomy
+
+  pub with-refusal : (n ≡ 0 → ⊥) → reportIn room (answerWith n p a r u) verdicts ≡ refusedLine n p
+  with-refusal refused =
+      report-refused room (answerWith n p a r u) verdicts has-room (λ e. refused (sym (parts .0) ∙ e)) ∙ ap₂ refusedLine (parts .0) (parts .1)
+
+  pub with-totals : n ≡ 0 → reportIn room (answerWith n p a r u) verdicts ≡ claimLines verdicts (a + r + u) ++ totalLine a r u ++ certifiedLine (a + r + u) a
+  with-totals judged =
+      report-judged room (answerWith n p a r u) verdicts has-room (parts .0 ∙ judged)
+      ∙ (λ i. claimLines verdicts (parts .2 i + parts .3 i + parts .4 i) ++ totalLine (parts .2 i) (parts .3 i) (parts .4 i)
+      ++ certifiedLine (parts .2 i + parts .3 i + parts .4 i) (parts .2 i))
