@@ -5,9 +5,9 @@
 --     Fits r              the numbers of a record have room in its bytes
 --     record-back         in the buffer, the record of claim k holds the numbers that were written for it
 --     verdict-fits        the record of the verdict on a well-formed claim has room in its bytes
-use Prim.Native.Nat.{ℕ, zero, suc, _+_, _*_, _^_, _≤_, _<_}
+use Prim.Native.Nat.{ℕ, suc, _+_, _*_, _^_, _≤_, _<_}
 use mathlib.Core.Path.{_≡_, refl, sym, ap, _∙_}
-use mathlib.Core.List.{List, [], _∷_, _++_, append-assoc, append-nil}
+use mathlib.Core.List.{List, [], _++_, append-assoc, append-nil}
 use native.Mathlib.Omega.{arith}
 use native.Mathlib.Nat.{add-zero}
 use native.Mathlib.Decide.{decLe}
@@ -16,7 +16,7 @@ use lib.Seq.{take-all, drop-append-le, take-append-le, drop-append-add}
 use Rattle.numbers.specs.Numbers.{numberAfter, numberAt, number-whole}
 use Rattle.numbers.specs.Put.{put, bytesOf, length-bytes, bytes-back}
 use Rattle.minplus.specs.Curve.{Curve, WellFormed, value, value-at-most}
-use Rattle.minplus.specs.Conv.{conv, conv-below}
+use Rattle.minplus.specs.Conv.{conv-below}
 use Rattle.minplus.specs.Claim.{Claim, Operation, sum, minimum, convolution, Deviation, delay, backlog, equals, bounds, WellFormedClaim, maxX, due, allowed}
 use Rattle.minplus.specs.Horizon.{horizon, maxHorizon}
 use Rattle.minplus.specs.Verdict.{Record, Verdict, accepted, refutedAt, refutedByRate, notLeast, notJudged, recordOf, leftAt, rightAt, tried, verdict}
