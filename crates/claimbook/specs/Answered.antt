@@ -5,27 +5,28 @@
 --     textFor n book      document 01's lines for the book, where n bytes have room for them
 --     said, verdictLine   a verdict as document 01's words, and the line of claim k; verdictLines: those of the first claims
 --     text-refused        a refused book: its refusal's number and its place, on one line
---     text-sound          a sound book: the verdict on each claim, the totals, and whether it is certified
-use Prim.Native.Nat.{ℕ, zero, suc, _+_, _*_, _^_, _≤_, _<_}
+--     text-judged         a sound book: the verdict on each claim, the totals, and whether it is certified
+--
+-- Any book is one or the other: `inspected` of the judge.
+use Prim.Native.Nat.{ℕ, zero, suc, _+_, _*_, _≤_, _<_}
 use mathlib.Core.Path.{_≡_, refl, sym, ap, ap₂, subst, _∙_}
 use mathlib.Core.List.{List, [], _++_}
 use native.Mathlib.Omega.{arith}
 use lib.ListN.{length, replicate, length-replicate}
-use Rattle.minplus.specs.Verdict.{Verdict, accepted, refutedAt, refutedByRate, notLeast, notJudged, recordOf}
+use Rattle.minplus.specs.Verdict.{Record, Verdict, accepted, refutedAt, refutedByRate, notLeast, notJudged, recordOf}
 use Rattle.numbers.specs.Put.{put}
-use Rattle.field.specs.declared.Refusal.{Refusal}
-use Rattle.field.specs.declared.Refusal.the-variants as refusal
 use Rattle.field.specs.Refusals.{maxClaims, numberOf}
-use Rattle.book.specs.Reading.{Contents, Read, sound, refused, readBook}
-use Rattle.book.specs.Sound.{refused-inside, sound-book}
+use Rattle.book.specs.Reading.{Contents, sound, readBook}
+use Rattle.book.specs.Sound.{sound-book}
+use Rattle.judge.specs.Answer.{acceptedIn, refutedIn, unjudgedIn, claimsIn, recordSize, recordIn}
 use Rattle.judge.specs.Claims.{claimOn, stands-over, claim-well, verdict-stands}
 use Rattle.judge.specs.Records.{recordsTo}
-use Rattle.judge.specs.Totals.{totalsWord, totals-add-up}
-use Rattle.judge.specs.Run.{answerOf, bufferOf, bufferOn, totalsOn, verdictAt, recordAt, run-refused, run-sound}
+use Rattle.judge.specs.Readback.{Fits, record-fits, records-back}
+use Rattle.judge.specs.Run.{answerOf, bufferOf, bufferOn, verdictAt, recordAt, run-sound}
+use Rattle.judge.specs.Inspector.{Judged, Refused}
 use Rattle.report.specs.Text.{bytes}
 use Rattle.report.specs.Lines as lines
-use Rattle.report.specs.Lines.{recordSize, maxLine, answerWith, part, verdictWords, wordsIn, claimLine, claimLines, totalLine, certifiedLine, refusedLine, reportIn, with-refusal, with-totals}
-use Rattle.claimbook.specs.Records.{Fits, record-back, verdict-fits}
+use Rattle.report.specs.Lines.{maxLine, part, verdictWords, claimLine, claimLines, totalLine, certifiedLine, refusedLine, reportIn, report-refused, report-judged}
 
 abbrev pub blank : List ℕ
 blank = replicate (recordSize * maxClaims) 0
@@ -66,75 +67,53 @@ said-so refutedByRate = refl
 said-so notLeast = refl
 said-so notJudged = refl
 
-number-few : (x : Refusal) → (numberOf x < 2 ^ 8) × (numberOf x ≡ 0 → ⊥)
-unfolding numberOf
-number-few refusal.Torn = (omega arith, λ e. omega (arith, e))
-number-few refusal.UnknownTag = (omega arith, λ e. omega (arith, e))
-number-few refusal.OutOfOrder = (omega arith, λ e. omega (arith, e))
-number-few refusal.TooMany = (omega arith, λ e. omega (arith, e))
-number-few refusal.WrongVersion = (omega arith, λ e. omega (arith, e))
-number-few refusal.CurveLength = (omega arith, λ e. omega (arith, e))
-number-few refusal.CurvePeriod = (omega arith, λ e. omega (arith, e))
-number-few refusal.TooManyUnits = (omega arith, λ e. omega (arith, e))
-number-few refusal.CurveFalls = (omega arith, λ e. omega (arith, e))
-number-few refusal.WrongClaim = (omega arith, λ e. omega (arith, e))
-number-few refusal.NoSuchCurve = (omega arith, λ e. omega (arith, e))
-number-few refusal.TooLarge = (omega arith, λ e. omega (arith, e))
-number-few refusal.WrongEnd = (omega arith, λ e. omega (arith, e))
-number-few refusal.NoRoom = (omega arith, λ e. omega (arith, e))
-number-few refusal.BookTooLong = (omega arith, λ e. omega (arith, e))
-
 module _ (book : List ℕ) where
-  pub text-refused : (x : Refusal) (p : ℕ) → readBook book ≡ refused x p → textFor room book ≡ refusedLine (numberOf x) p
+  -- where there are no more claims than a book may have, the lines have room
+  roomy : (n : ℕ) → claimsIn (answerOf book blank) ≡ n → n ≤ maxClaims → maxLine * (claimsIn (answerOf book blank) + 2) ≤ room
+  roomy n e few = rw e (omega (arith, few))
+
+  pub text-refused : (w : Refused book blank (answerOf book blank) (bufferOf book blank)) → textFor room book ≡ refusedLine (numberOf (w .refusal)) (w .place)
   unfolding textFor
-  text-refused x p e =
-      let answer : answerOf book blank ≡ answerWith (numberOf x) p 0 0 0 = run-refused book blank x p e .0 ∙ omega arith in
-      ap (λ (n : ℕ). reportIn room n (bufferOf book blank)) answer
-      ∙ with-refusal room (bufferOf book blank) (numberOf x) p 0 0 0 (number-few x .0) (omega (arith, refused-inside book x p e .1))
-      (record { few-accepted = omega arith; few-refuted = omega arith; few-unjudged = omega arith }) (omega arith) (number-few x .1)
+  text-refused w =
+      let none = w .no-totals in
+      report-refused room (answerOf book blank) (bufferOf book blank) (roomy 0 (λ i. none .0 i + none .1 i + none .2 i) (omega arith)) (w .is-refusal)
+      ∙ ap₂ refusedLine (w .number-and-place .0) (w .number-and-place .1)
 
   module _ (c : Contents) (e : readBook book ≡ sound c) where
-    holds : recordSize * length (c .claims) ≤ length blank
-    holds = omega (arith, sound-book book c e .claims-fit, length-replicate {A = ℕ} (recordSize * maxClaims) 0)
-
-    buffer : bufferOf book blank ≡ put blank 0 (recordsTo (recordAt book c) (length (c .claims)))
-    unfolding bufferOn
-    buffer = run-sound book blank c e holds .1 ∙ ap (bufferOn book blank) e
-
     fit : (k : ℕ) → k < length (c .claims) → Fits (recordAt book c k)
     unfolding verdictAt
     fit k lt =
         let over = stands-over book c (sound-book book c e) k lt in
-        subst (λ (v : Verdict). Fits (recordOf v)) (sym (verdict-stands over)) (verdict-fits (claimOn book (c .curves) (over .stands .stated)) (claim-well over))
+        subst (λ (v : Verdict). Fits (recordOf v)) (sym (verdict-stands over)) (record-fits (claimOn book (c .curves) (over .stands .stated)) (claim-well over))
+
+    back : (k : ℕ) → k < length (c .claims) → recordIn (bufferOf book blank) k ≡ recordAt book c k
+    unfolding bufferOn
+    back k lt =
+        let holds : recordSize * length (c .claims) ≤ length blank =
+        omega (arith, sound-book book c e .claims-fit, length-replicate {A = ℕ} (recordSize * maxClaims) 0) in
+        ap (λ (b : List ℕ). recordIn b k) (run-sound book blank c e holds .1 ∙ ap (bufferOn book blank) e)
+        ∙ records-back blank (recordAt book c) (length (c .claims)) k lt (fit k lt)
 
     line : (k : ℕ) → k < length (c .claims) → claimLine (bufferOf book blank) k ≡ verdictLine k (verdictAt book c k)
     unfolding claimLine verdictLine
     line k lt =
-        let back = record-back blank (recordAt book c) (length (c .claims)) k lt (fit k lt) in
-        ap (λ (b : List ℕ). part "claim " k ++ wordsIn b k) buffer
-        ∙ ap (λ (t : List ℕ). part "claim " k ++ t) ((λ i. verdictWords (back .0 i) (back .1 i) (back .2 i) (back .3 i)) ∙ said-so (verdictAt book c k))
+        ap (λ (t : List ℕ). part "claim " k ++ t)
+        (ap (λ (r : Record). verdictWords (r .code) (r .tick) (r .left) (r .right)) (back k lt) ∙ said-so (verdictAt book c k))
 
     each-line : (n : ℕ) → n ≤ length (c .claims) → claimLines (bufferOf book blank) n ≡ verdictLines (verdictAt book c) n
     unfolding claimLines verdictLines
     each-line zero le = refl
     each-line (suc n) le = ap₂ (λ (s t : List ℕ). s ++ t) (each-line n (omega (arith, le))) (line n (omega (arith, le)))
 
-    pub text-sound : textFor room book
-        ≡ verdictLines (verdictAt book c) (length (c .claims))
-        ++ totalLine (totalsOn book (sound c) .accepted) (totalsOn book (sound c) .refuted) (totalsOn book (sound c) .unjudged)
-        ++ certifiedLine (length (c .claims)) (totalsOn book (sound c) .accepted)
-    unfolding textFor totalsOn
-    text-sound =
-        let a = totalsOn book (sound c) .accepted in
-        let r = totalsOn book (sound c) .refuted in
-        let u = totalsOn book (sound c) .unjudged in
-        let all : a + r + u ≡ length (c .claims) = totals-add-up (verdictAt book c) (length (c .claims)) in
-        let few = sound-book book c e .claims-fit in
-        let answer : answerOf book blank ≡ answerWith 0 0 a r u =
-        run-sound book blank c e holds .0 ∙ ap (λ (x : Read). totalsWord (totalsOn book x)) e ∙ omega arith in
-        ap (λ (n : ℕ). reportIn room n (bufferOf book blank)) answer
-        ∙ with-totals room (bufferOf book blank) 0 0 a r u (omega arith) (omega arith)
-        (record { few-accepted = omega (arith, all, few); few-refuted = omega (arith, all, few); few-unjudged = omega (arith, all, few) })
-        (omega (arith, all, few)) refl
-        ∙ ap (λ (n : ℕ). claimLines (bufferOf book blank) n ++ totalLine a r u ++ certifiedLine n a) all
-        ∙ ap (λ (t : List ℕ). t ++ totalLine a r u ++ certifiedLine (length (c .claims)) a) (each-line (length (c .claims)) (omega arith))
+  pub text-judged : (w : Judged book blank (answerOf book blank) (bufferOf book blank)) → textFor room book
+      ≡ verdictLines (verdictAt book (w .contents)) (length (w .contents .claims))
+      ++ totalLine (acceptedIn (answerOf book blank)) (refutedIn (answerOf book blank)) (unjudgedIn (answerOf book blank))
+      ++ certifiedLine (length (w .contents .claims)) (acceptedIn (answerOf book blank))
+  unfolding textFor
+  text-judged w =
+      let a = answerOf book blank in
+      let c = w .contents in
+      report-judged room a (bufferOf book blank) (roomy (length (c .claims)) (w .add-up) (sound-book book c (w .book-sound) .claims-fit)) (w .no-refusal .0)
+      ∙ ap (λ (n : ℕ). claimLines (bufferOf book blank) n ++ totalLine (acceptedIn a) (refutedIn a) (unjudgedIn a) ++ certifiedLine n (acceptedIn a)) (w .add-up)
+      ∙ ap (λ (t : List ℕ). t ++ totalLine (acceptedIn a) (refutedIn a) (unjudgedIn a) ++ certifiedLine (length (c .claims)) (acceptedIn a))
+      (each-line c (w .book-sound) (length (c .claims)) (omega arith))

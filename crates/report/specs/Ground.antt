@@ -12,8 +12,9 @@ use mathlib.Core.List.{List, [], _∷_, _++_}
 use lib.ListN.{length, replicate}
 use Rattle.numbers.specs.Numbers.{numberAt}
 use Rattle.numbers.specs.Put.{bytesOf}
+use Rattle.judge.specs.Answer.{answerWith}
 use Rattle.report.specs.Text.{bytes, decimal}
-use Rattle.report.specs.Lines.{answerWith, part, verdictWords, claimLine, reportOf, maxLine}
+use Rattle.report.specs.Lines.{part, verdictWords, claimLine, reportOf, maxLine}
 
 -- "A record is 21 bytes: code, tick (4 bytes), left value (8), right value (8)"
 abbrev record-of : ℕ → ℕ → ℕ → ℕ → List ℕ

@@ -1,71 +1,25 @@
 -- Document 01's lines for an answer of the judge and its verdict buffer.
 --
---     refusalIn, placeIn, acceptedIn, refutedIn, unjudgedIn     the parts of an answer; claimsIn: the three totals together
---     answerWith          an answer from its parts; answer-parts: they are its parts
---     codeIn, tickIn, leftIn, rightIn     the record of a claim
 --     part w n            words and the number after them; lastPart: and the end of the line
 --     claimLine, totalLine, certifiedLine, refusedLine     the lines; claimLines: those of the first claims
 --     verdictWords        a claim's line after `claim K`, by its record's numbers; wordsIn: by its record; refutedAt: code 2
 --     reportOf            the whole text
 --     reportIn            the same where the lent bytes have room for it, else nothing
 --     maxLine, maxWords   the length of the longest line, and of the longest verdictWords
---     Totals              what the totals of an answer can be
+--     TotalsFit           what the totals of an answer can be
 --     refuted-short, total-short     how many digits the numbers of a line can have
 --     report-short, report-refused, report-judged     reportIn, by its tests
---     with-refusal, with-totals     the same for an answer put together from its parts
-use Prim.Native.Nat.{ℕ, zero, suc, _+_, _*_, _/_, _%_, _^_, _≤_, _<_}
+use Prim.Native.Nat.{ℕ, zero, suc, _+_, _*_, _^_, _≤_, _<_}
 use Prim.Native.String.{String}
-use mathlib.Core.Path.{_≡_, sym, ap₂, subst, _∙_}
-use mathlib.Core.Bool.{_&&_, cond}
+use mathlib.Core.Path.{_≡_}
+use mathlib.Core.Bool.{cond}
 use mathlib.Core.List.{List, [], _++_}
 use native.Mathlib.Omega.{arith}
 use lib.ListN.{length}
-use lib.Dec.{leb, ltb, eqb}
+use lib.Dec.{ltb, eqb}
 use borrow.Author.Tests.{lt-ltb, le-ltb, eq-eqb, ne-eqb}
-use Rattle.numbers.specs.Numbers.{numberAt}
+use Rattle.judge.specs.Answer.{refusalIn, placeIn, acceptedIn, refutedIn, unjudgedIn, claimsIn, certified, codeIn, tickIn, leftIn, rightIn}
 use Rattle.report.specs.Text.{bytes, decimal, decimal-short}
-
--- "refusal number + 2^8 * place + 2^24 * accepted + 2^36 * refuted + 2^48 * not judged"
-abbrev pub answerWith : ℕ → ℕ → ℕ → ℕ → ℕ → ℕ
-answerWith refusal place accepted refuted unjudged =
-    refusal + 2 ^ 8 * place + 2 ^ 24 * accepted + 2 ^ 36 * refuted + 2 ^ 48 * unjudged
-
-abbrev pub refusalIn : ℕ → ℕ
-refusalIn answer = answer % 2 ^ 8
-
-abbrev pub placeIn : ℕ → ℕ
-placeIn answer = answer / 2 ^ 8 % 2 ^ 16
-
-abbrev pub acceptedIn : ℕ → ℕ
-acceptedIn answer = answer / 2 ^ 24 % 2 ^ 12
-
-abbrev pub refutedIn : ℕ → ℕ
-refutedIn answer = answer / 2 ^ 36 % 2 ^ 12
-
-abbrev pub unjudgedIn : ℕ → ℕ
-unjudgedIn answer = answer / 2 ^ 48
-
--- "accepted, refuted and not judged add up to the claims counted in the book"
-abbrev pub claimsIn : ℕ → ℕ
-claimsIn answer = acceptedIn answer + refutedIn answer + unjudgedIn answer
-
-abbrev pub recordSize : ℕ
-recordSize = 21
-
--- "A record is 21 bytes: code, tick (4 bytes), left value (8), right value (8), high byte first."
-abbrev pub codeIn : List ℕ → ℕ → ℕ
-codeIn verdicts k = numberAt 1 verdicts (recordSize * k)
-
-abbrev pub tickIn : List ℕ → ℕ → ℕ
-tickIn verdicts k = numberAt 4 verdicts (recordSize * k + 1)
-
-abbrev pub leftIn : List ℕ → ℕ → ℕ
-leftIn verdicts k = numberAt 8 verdicts (recordSize * k + 5)
-
-abbrev pub rightIn : List ℕ → ℕ → ℕ
-rightIn verdicts k = numberAt 8 verdicts (recordSize * k + 13)
-
--- ---- the lines
 
 -- where a line is opened its numbers stay shut
 unfoldable pub part : String → ℕ → List ℕ
@@ -112,7 +66,7 @@ totalLine accepted refuted unjudged =
 -- "yes exactly when there is at least one claim and all are accepted"
 unfoldable pub certifiedLine : ℕ → ℕ → List ℕ
 unfolding bytes
-certifiedLine claims accepted = cond (leb 1 claims && eqb accepted claims) (bytes "certified yes\n") (bytes "certified no\n")
+certifiedLine claims accepted = cond (certified claims accepted) (bytes "certified yes\n") (bytes "certified no\n")
 
 unfoldable pub refusedLine : ℕ → ℕ → List ℕ
 unfolding part lastPart
@@ -139,24 +93,19 @@ unfolding reportOf
 reportIn room answer verdicts = cond (ltb room (maxLine * (claimsIn answer + 2))) [] (reportOf answer verdicts)
 
 -- the totals of any answer of 64 bits
-pub record Totals (accepted refuted unjudged : ℕ) : Type 0 where
+pub record TotalsFit (accepted refuted unjudged : ℕ) : Type 0 where
   pub few-accepted : accepted < 2 ^ 12
   pub few-refuted : refuted < 2 ^ 12
   pub few-unjudged : unjudged < 2 ^ 16
 
 -- ---- laws
 
-pub answer-parts : (n p a r u : ℕ) → n < 2 ^ 8 → p < 2 ^ 16 → a < 2 ^ 12 → r < 2 ^ 12
-    → (refusalIn (answerWith n p a r u) ≡ n) × (placeIn (answerWith n p a r u) ≡ p)
-    × (acceptedIn (answerWith n p a r u) ≡ a) × (refutedIn (answerWith n p a r u) ≡ r) × (unjudgedIn (answerWith n p a r u) ≡ u)
-answer-parts n p a r u hn hp ha hr = (omega arith, omega arith, omega arith, omega arith, omega arith)
-
 -- how many digits the numbers of a line can have
 pub refuted-short : (tick left right : ℕ) → tick < 2 ^ 32 → left < 2 ^ 64 → right < 2 ^ 64
     → (length (decimal tick) ≤ 10) × (length (decimal left) ≤ 20) × (length (decimal right) ≤ 20)
 refuted-short tick left right lt lt′ lt″ = (decimal-short 9 tick (omega (arith, lt)), decimal-short 19 left (omega (arith, lt′)), decimal-short 19 right (omega (arith, lt″)))
 
-pub total-short : {accepted refuted unjudged : ℕ} → Totals accepted refuted unjudged
+pub total-short : {accepted refuted unjudged : ℕ} → TotalsFit accepted refuted unjudged
     → (length (decimal (accepted + refuted + unjudged)) ≤ 5) × (length (decimal accepted) ≤ 4) × (length (decimal refuted) ≤ 4) × (length (decimal unjudged) ≤ 5)
 total-short {accepted} {refuted} {unjudged} few = (
   decimal-short 4 (accepted + refuted + unjudged) (omega arith),
@@ -180,22 +129,3 @@ module _ (room answer : ℕ) (verdicts : List ℕ) where
         ≡ claimLines verdicts (claimsIn answer) ++ totalLine (acceptedIn answer) (refutedIn answer) (unjudgedIn answer) ++ certifiedLine (claimsIn answer) (acceptedIn answer)
     unfolding reportIn
     report-judged judged = rw (le-ltb _ _ roomy, eq-eqb _ _ judged, reportIn)
-
--- an answer put together from its parts
-module _ (room : ℕ) (verdicts : List ℕ) (n p a r u : ℕ) (few-n : n < 2 ^ 8) (few-p : p < 2 ^ 16) (few : Totals a r u) (roomy : maxLine * (a + r + u + 2) ≤ room) where
-  parts : (refusalIn (answerWith n p a r u) ≡ n) × (placeIn (answerWith n p a r u) ≡ p)
-      × (acceptedIn (answerWith n p a r u) ≡ a) × (refutedIn (answerWith n p a r u) ≡ r) × (unjudgedIn (answerWith n p a r u) ≡ u)
-  parts = answer-parts n p a r u few-n few-p (few .few-accepted) (few .few-refuted)
-
-  has-room : maxLine * (claimsIn (answerWith n p a r u) + 2) ≤ room
-  has-room = subst (λ (m : ℕ). maxLine * (m + 2) ≤ room) (sym (λ i. parts .2 i + parts .3 i + parts .4 i)) roomy
-
-  pub with-refusal : (n ≡ 0 → ⊥) → reportIn room (answerWith n p a r u) verdicts ≡ refusedLine n p
-  with-refusal refused =
-      report-refused room (answerWith n p a r u) verdicts has-room (λ e. refused (sym (parts .0) ∙ e)) ∙ ap₂ refusedLine (parts .0) (parts .1)
-
-  pub with-totals : n ≡ 0 → reportIn room (answerWith n p a r u) verdicts ≡ claimLines verdicts (a + r + u) ++ totalLine a r u ++ certifiedLine (a + r + u) a
-  with-totals judged =
-      report-judged room (answerWith n p a r u) verdicts has-room (parts .0 ∙ judged)
-      ∙ (λ i. claimLines verdicts (parts .2 i + parts .3 i + parts .4 i) ++ totalLine (parts .2 i) (parts .3 i) (parts .4 i)
-      ++ certifiedLine (parts .2 i + parts .3 i + parts .4 i) (parts .2 i))

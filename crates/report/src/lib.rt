@@ -4,8 +4,9 @@ ghost use mathlib.Core.Path.{_≡_};
 ghost use lib.ListN.{length};
 ghost use Rattle.io.specs.Counts.{Counts};
 ghost use Rattle.numbers.specs.Put.{put};
-ghost use Rattle.report.specs.Lines.{maxLine, maxWords, Totals, refutedAt, wordsIn, claimLine, claimLines, totalLine, certifiedLine, refusedLine, reportIn};
+ghost use Rattle.report.specs.Lines.{maxLine, maxWords, TotalsFit, refutedAt, wordsIn, claimLine, claimLines, totalLine, certifiedLine, refusedLine, reportIn};
 ghost use Rattle.report.specs.Written.{Wrote};
+use judge::Totals;
 use numbers::number1;
 use numbers::number4;
 use numbers::number8;
@@ -14,9 +15,6 @@ use text::put_part;
 use text::put_words;
 
 mod text;
-
-// A record of the verdict buffer.
-const RECORD: usize = 21;
 
 // The longest line: `claim K refuted at N left V right W` with K of 5 digits, N of 10, V and W of 20.
 pub const MAX_LINE: usize = 87;
@@ -38,7 +36,7 @@ fn verdict_words(out: &mut [u8], at: usize, verdicts: &[u8], k: usize) -> usize
     ensures { λ r. ⌜ Wrote (now (out .entry)) at (wordsIn (now (verdicts .entry)) k) (now (out .exit)) r ⌝ }
     ensures { λ r. ⌜ r ≤ at + maxWords ⌝ }
 {
-    let record = RECORD * k;
+    let record = Totals::RECORD * k;
     match number1(verdicts, record) {
         1 => put_words(out, at, b" accepted\n"),
         2 => refuted_at(
@@ -81,7 +79,7 @@ fn claim_lines(out: &mut [u8], verdicts: &[u8], claims: usize) -> usize
 
 fn total_line(out: &mut [u8], at: usize, accepted: u64, refuted: u64, unjudged: u64) -> usize
     requires { ⌜ at + maxLine ≤ length (now out) ⌝ }
-    requires { ⌜ Totals accepted refuted unjudged ⌝ }
+    requires { ⌜ TotalsFit accepted refuted unjudged ⌝ }
     ensures { λ r. ⌜ Wrote (now (out .entry)) at (totalLine accepted refuted unjudged) (now (out .exit)) r ⌝ }
     ensures { λ r. ⌜ r ≤ at + maxLine ⌝ }
 {

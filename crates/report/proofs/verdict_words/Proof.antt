@@ -4,7 +4,8 @@ use native.Mathlib.Omega.{arith}
 use denote.Ref.{now}
 use borrow.Author.Needs.{needs}
 use borrow.Author.Tests.{ne-eqb}
-use Rattle.report.specs.Lines.{codeIn, refutedAt, verdictWords}
+use Rattle.judge.specs.Answer.{codeIn}
+use Rattle.report.specs.Lines.{refutedAt, verdictWords}
 use Rattle.report.proofs.verdict_words.Statement.{statement}
 use Rattle.report.proofs.verdict_words.Tie as tie
 
