@@ -14,13 +14,11 @@ use mathlib.Core.List.{List, [], _++_}
 use native.Mathlib.Omega.{arith}
 use lib.ListN.{length, replicate, length-replicate}
 use Rattle.minplus.specs.Verdict.{Record, Verdict, accepted, refutedAt, refutedByRate, notLeast, notJudged, recordOf}
-use Rattle.numbers.specs.Put.{put}
 use Rattle.field.specs.Refusals.{maxClaims, numberOf}
 use Rattle.book.specs.Reading.{Contents, sound, readBook}
 use Rattle.book.specs.Sound.{sound-book}
 use Rattle.judge.specs.Answer.{acceptedIn, refutedIn, unjudgedIn, claimsIn, recordSize, recordIn}
 use Rattle.judge.specs.Claims.{claimOn, stands-over, claim-well, verdict-stands}
-use Rattle.judge.specs.Records.{recordsTo}
 use Rattle.judge.specs.Readback.{Fits, record-fits, records-back}
 use Rattle.judge.specs.Run.{answerOf, bufferOf, bufferOn, verdictAt, recordAt, run-sound}
 use Rattle.judge.specs.Inspector.{Judged, Refused}

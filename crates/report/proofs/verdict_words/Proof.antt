@@ -4,7 +4,7 @@ use native.Mathlib.Omega.{arith}
 use denote.Ref.{now}
 use borrow.Author.Needs.{needs}
 use borrow.Author.Tests.{ne-eqb}
-use Rattle.judge.specs.Answer.{codeIn}
+use Rattle.judge.specs.Answer.{codeIn, tickIn, leftIn, rightIn}
 use Rattle.report.specs.Lines.{refutedAt, verdictWords}
 use Rattle.report.proofs.verdict_words.Statement.{statement}
 use Rattle.report.proofs.verdict_words.Tie as tie
@@ -80,10 +80,11 @@ second tick left right = refl
 returns-2 : tie.Need-returns-2
 returns-2 c =
     let a = c .before .before .before .before .before .before .before .before .before .before .before .args in
-    let code : codeIn (now (a .verdicts)) (a .k) ≡ 2 = sym (c .before .before .before .before .before .before .before .before .number1 .ensures) ∙ c .before .before .before .before .before .before .before .match .keys2 in (
-      rw (code, second, ← (c .before .before .before .before .before .number4 .ensures), ← (c .before .before .before .before .number8 .ensures), ← (c .before .before .before .number82 .ensures)) (c .before .before .refuted-at .ensures .0),
-      omega arith,
-    )
+    let code : codeIn (now (a .verdicts)) (a .k) ≡ 2 = sym (c .before .before .before .before .before .before .before .before .number1 .ensures) ∙ c .before .before .before .before .before .before .before .match .keys2 in
+    let tick : c .before .before .before .before .before .number4 .result ≡ tickIn (now (a .verdicts)) (a .k) = c .before .before .before .before .before .number4 .ensures in
+    let left : c .before .before .before .before .number8 .result ≡ leftIn (now (a .verdicts)) (a .k) = c .before .before .before .before .number8 .ensures in
+    let right : c .before .before .before .number82 .result ≡ rightIn (now (a .verdicts)) (a .k) = c .before .before .before .number82 .ensures in
+    (rw (code, second, ← tick, ← left, ← right) (c .before .before .refuted-at .ensures .0), omega arith)
 
 same-length-3 : tie.Need-same-length-3
 same-length-3 c = search needs
