@@ -9,7 +9,7 @@
 --
 -- Any book is one or the other: `inspected` of the judge.
 use Prim.Native.Nat.{ℕ, zero, suc, _+_, _*_, _≤_, _<_}
-use mathlib.Core.Path.{_≡_, refl, sym, ap, ap₂, subst, _∙_}
+use mathlib.Core.Path.{_≡_, refl, ap, ap₂, _∙_}
 use mathlib.Core.List.{List, [], _++_}
 use native.Mathlib.Omega.{arith}
 use lib.ListN.{length, replicate, length-replicate}
@@ -18,10 +18,8 @@ use Rattle.field.specs.Refusals.{maxClaims, numberOf}
 use Rattle.book.specs.Reading.{Contents, sound, readBook}
 use Rattle.book.specs.Sound.{sound-book}
 use Rattle.judge.specs.Answer.{acceptedIn, refutedIn, unjudgedIn, claimsIn, recordSize, recordIn}
-use Rattle.judge.specs.Claims.{claimOn, stands-over, claim-well, verdict-stands}
-use Rattle.judge.specs.Readback.{Fits, record-fits, records-back}
-use Rattle.judge.specs.Run.{answerOf, bufferOf, bufferOn, verdictAt, recordAt, run-sound}
-use Rattle.judge.specs.Inspector.{Judged, Refused}
+use Rattle.judge.specs.Run.{Room, answerOf, bufferOf, bufferOn, verdictAt, recordAt, run-sound}
+use Rattle.judge.specs.Inspector.{Judged, Refused, record-back}
 use Rattle.report.specs.Text.{bytes}
 use Rattle.report.specs.Lines as lines
 use Rattle.report.specs.Lines.{maxLine, part, verdictWords, claimLine, claimLines, totalLine, certifiedLine, refusedLine, reportIn, report-refused, report-judged}
@@ -78,19 +76,11 @@ module _ (book : List ℕ) where
       ∙ ap₂ refusedLine (w .number-and-place .0) (w .number-and-place .1)
 
   module _ (c : Contents) (e : readBook book ≡ sound c) where
-    fit : (k : ℕ) → k < length (c .claims) → Fits (recordAt book c k)
-    unfolding verdictAt
-    fit k lt =
-        let over = stands-over book c (sound-book book c e) k lt in
-        subst (λ (v : Verdict). Fits (recordOf v)) (sym (verdict-stands over)) (record-fits (claimOn book (c .curves) (over .stands .stated)) (claim-well over))
-
     back : (k : ℕ) → k < length (c .claims) → recordIn (bufferOf book blank) k ≡ recordAt book c k
     unfolding bufferOn
     back k lt =
-        let holds : recordSize * length (c .claims) ≤ length blank =
-        omega (arith, sound-book book c e .claims-fit, length-replicate {A = ℕ} (recordSize * maxClaims) 0) in
-        ap (λ (b : List ℕ). recordIn b k) (run-sound book blank c e holds .1 ∙ ap (bufferOn book blank) e)
-        ∙ records-back blank (recordAt book c) (length (c .claims)) k lt (fit k lt)
+        let holds : Room blank c = omega (arith, sound-book book c e .claims-fit, length-replicate {A = ℕ} (recordSize * maxClaims) 0) in
+        ap (λ (b : List ℕ). recordIn b k) (run-sound book blank c e holds .1 ∙ ap (bufferOn book blank) e) ∙ record-back book blank c e holds k lt
 
     line : (k : ℕ) → k < length (c .claims) → claimLine (bufferOf book blank) k ≡ verdictLine k (verdictAt book c k)
     unfolding claimLine verdictLine

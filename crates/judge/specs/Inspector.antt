@@ -5,7 +5,7 @@
 --     Refused s b a after     a refusal: document 01's number and place, no totals, and every byte of the buffer as it was
 --     Judged s b a after      the book is sound, there is a record for each claim, the totals count the records, and the rest of the buffer is as it was;
 --                             each record is on its claim (ClaimJudged) and says of it, code by code, what is so at every tick, without end (Says)
---     inspected               for any s and b
+--     inspected               for any s and b; record-back: record k of the buffer is the record on claim k
 --     accepted-convolution    for the code 1 of kind 3 spelled out: h(n) is the least f(u)+g(n-u), at every n
 --     inspected-w8            W8 is such a book
 use Prim.Native.Nat.{ℕ, zero, suc, _+_, _*_, _≤_, _<_, _^_}
@@ -223,11 +223,12 @@ module _ (s b : List ℕ) (c : Contents) (so : readBook s ≡ sound c) (room : R
         subst Fits is (record-fits claim well),
       )
 
-  back : (k : ℕ) → k < claims → recordIn after k ≡ recordAt s c k
-  back k lt = records-back b (recordAt s c) claims k lt (claim-judged k lt .1)
+  -- what is read from the buffer again
+  pub record-back : (k : ℕ) → k < claims → recordIn after k ≡ recordAt s c k
+  record-back k lt = records-back b (recordAt s c) claims k lt (claim-judged k lt .1)
 
   counts : (p : ℕ → Bool) → countTo p (codeAt s c) claims ≡ countTo p (codeIn after) claims
-  counts p = count-same p (codeAt s c) (codeIn after) claims (λ k lt. ap (λ (r : Record). r .code) (sym (back k lt)))
+  counts p = count-same p (codeAt s c) (codeIn after) claims (λ k lt. ap (λ (r : Record). r .code) (sym (record-back k lt)))
 
   is-judged : Judged s b (totalsWord (totalsTo (codeAt s c) claims)) after
   unfolding totalsTo
@@ -247,7 +248,7 @@ module _ (s b : List ℕ) (c : Contents) (so : readBook s ≡ sound c) (room : R
         refuted-count = parts .3 ∙ counts isRefuted;
         unjudged-count = parts .4 ∙ counts isUnjudged;
         add-up = rw (parts .2, parts .3, parts .4) all;
-        each-claim = λ k lt. subst (ClaimJudged s c k) (sym (back k lt)) (claim-judged k lt .0);
+        each-claim = λ k lt. subst (ClaimJudged s c k) (sym (record-back k lt)) (claim-judged k lt .0);
         same-length = length-put b 0 (recordsTo (recordAt s c) claims) (omega (arith, size, room));
         rest-stays = rw end at (drop-put b 0 (recordsTo (recordAt s c) claims) (omega (arith, size, room)));
       }
