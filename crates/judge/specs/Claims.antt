@@ -3,12 +3,14 @@
 --     curveNamed s places n       curve n of a book whose curves' fields begin at those places
 --     claimOn s places st         what a claim's field states, of those curves
 --     verdictIn s places curves p     the verdict on the claim whose field is at p, among so many curves
+--     stated-kind                 what is stated is what the content's bytes say of its kind
 --     StandsOver                  it is a claim of curves that are there and well formed: so is each of a sound book (stands-over)
 --     claim-well, verdict-stands     then it is well formed, and the verdict is that of document 01's rule
 --     stands-array, verdict-array    all the same where the places stand in an array
 use Prim.Native.Nat.{ℕ, _≤_, _<_}
 use mathlib.Core.Path.{_≡_, refl, sym, ap, subst, _∙_}
 use mathlib.Core.List.{List}
+use mathlib.Core.Option.{Option, none, some}
 use native.Mathlib.Omega.{arith}
 use lib.ListN.{length, getD}
 use Rattle.minplus.specs.Curve.{Curve, WellFormed}
@@ -20,10 +22,12 @@ use Rattle.curve.specs.Kinds.{xOf}
 use Rattle.curve.specs.declared.Claim.{Claim}
 use Rattle.curve.specs.declared.Claim.the-variants.{Equals, AtMost, Exactly}
 use Rattle.field.specs.declared.Stated.{Stated}
+use Rattle.field.specs.declared.Checked.{Checked}
+use Rattle.field.specs.declared.Checked.the-variants as checked
 use Rattle.field.specs.declared.ClaimField.{ClaimField}
 use Rattle.field.specs.declared.ClaimField.the-variants as claim-field
-use Rattle.field.specs.Layout.{curveIn, contentAt}
-use Rattle.field.specs.Refusals.{maxCurves, claimField}
+use Rattle.field.specs.Layout.{curveIn, contentAt, kindIn}
+use Rattle.field.specs.Refusals.{maxCurves, kindFault, statedIn, statedOr, stated, claimField}
 use Rattle.field.specs.Sound.{Stands, claim-stands, curve-well-formed}
 use Rattle.book.specs.Reading.{Contents}
 use Rattle.book.specs.Sound.{SoundBook}
@@ -51,6 +55,24 @@ pub record StandsOver (s places : List ℕ) (curves p : ℕ) : Type 0 where
   pub each-well : (n : ℕ) → n < curves → WellFormed (curveNamed s places n)
 
 -- ---- laws
+
+-- what a field states is what its bytes say of its kind
+pub stated-kind : (curves : ℕ) (content : List ℕ) (st : Stated) → claimField curves content ≡ claim-field.Stated st
+    → (κ : M.Kind) × (kindIn content ≡ some κ) × (st ≡ statedIn κ content)
+unfolding claimField
+stated-kind curves content st e = go (kindIn content) refl e
+  where
+    statedOf : ClaimField → Stated
+    statedOf (claim-field.Stated x) = x
+    statedOf (claim-field.Refused x) = st
+
+    sound : (κ : M.Kind) (y : Checked) → statedOr y (statedIn κ content) ≡ claim-field.Stated st → st ≡ statedIn κ content
+    sound κ (checked.Refused x) e = let z : _≡_ {A = ℕ} 0 1 = cc in absurd (omega (arith, z))
+    sound κ checked.Sound e = sym (ap statedOf e)
+
+    go : (κ : Option M.Kind) → kindIn content ≡ κ → stated κ curves content ≡ claim-field.Stated st → (κ : M.Kind) × (kindIn content ≡ some κ) × (st ≡ statedIn κ content)
+    go none is e = let z : _≡_ {A = ℕ} 0 1 = cc in absurd (omega (arith, z))
+    go (some κ) is e = (κ, is, sound κ (kindFault κ curves content) e)
 
 pub stands-over : (s : List ℕ) (c : Contents) → SoundBook s c → (k : ℕ) → k < length (c .claims)
     → StandsOver s (c .curves) (length (c .curves)) (getD (c .claims) k 0)

@@ -6,19 +6,21 @@
 --     Judged s b a after      the book is sound, there is a record for each claim, the totals count the records, and the rest of the buffer is as it was;
 --                             each record is on its claim (ClaimJudged) and says of it, code by code, what is so at every tick, without end (Says)
 --     inspected               for any s and b; record-back: record k of the buffer is the record on claim k
+--     IsClaim, claimCurve     claim k and its curves, as the claim's bytes say it
 --     accepted-convolution    for the code 1 of kind 3 spelled out: h(n) is the least f(u)+g(n-u), at every n
 --     inspected-w8            W8 is such a book
 use Prim.Native.Nat.{ℕ, zero, suc, _+_, _*_, _≤_, _<_, _^_}
 use mathlib.Core.Path.{_≡_, refl, sym, ap, subst, _∙_}
 use mathlib.Core.Bool.{Bool, true, false}
 use mathlib.Core.List.{List, [], _∷_, _++_}
+use mathlib.Core.Option.{Option, none, some}
 use mathlib.Core.Logic.{_↔_, _⊎_, inl, inr}
 use native.Mathlib.Omega.{arith}
 use lib.ListN.{length, getD, drop, replicate}
 use lib.Dec.{ltb, eqb}
 use borrow.Author.Tests.{ltb-false}
 use Rattle.minplus.specs.Curve.{Curve, value}
-use Rattle.minplus.specs.Claim.{kindBy, Claim, Claimed, WellFormedClaim, equals, convolution, due}
+use Rattle.minplus.specs.Claim.{kindBy, Kind, Claim, Claimed, WellFormedClaim, result, equals, convolution, due}
 use Rattle.minplus.specs.Conv.{conv, conv-below, conv-attained}
 use Rattle.minplus.specs.Horizon.{horizon, maxHorizon}
 use Rattle.minplus.specs.Verdict.{Record, Verdict, accepted, refutedAt, refutedByRate, notLeast, notJudged, recordOf, verdict, leftAt, rightAt, tried}
@@ -28,16 +30,15 @@ use Rattle.curve.specs.Filled.{listOf}
 use Rattle.field.specs.declared.Refusal.{Refusal}
 use Rattle.field.specs.declared.Refusal.the-variants.{Torn, UnknownTag, OutOfOrder, TooMany, WrongVersion, CurveLength, CurvePeriod, TooManyUnits, CurveFalls, WrongClaim, NoSuchCurve, TooLarge, WrongEnd, NoRoom, BookTooLong}
 use Rattle.field.specs.declared.Stated.{Stated}
-use Rattle.field.specs.declared.ClaimField.the-variants as claim-field
-use Rattle.field.specs.Layout.{tagBy, contentAt}
-use Rattle.field.specs.Refusals.{maxClaims, numberOf, claimField}
+use Rattle.field.specs.Layout.{tagBy, contentAt, kindIn, idIn}
+use Rattle.field.specs.Refusals.{maxClaims, numberOf, statedIn}
 use Rattle.book.specs.Reading.{Contents, Read, sound, refused, maxBytes, readBook}
 use Rattle.book.specs.Ground.{w8}
 use Rattle.book.specs.Sound.{sound-book, refused-inside}
 use Rattle.numbers.specs.Numbers.{numberAt}
 use Rattle.numbers.specs.Put.{put, length-put, drop-put}
 use Rattle.judge.specs.Answer.{answer-parts, refusalIn, placeIn, acceptedIn, refutedIn, unjudgedIn, claimsIn, recordSize, codeIn, recordIn}
-use Rattle.judge.specs.Claims.{claimOn, stands-over, claim-well, verdict-stands}
+use Rattle.judge.specs.Claims.{curveNamed, claimOn, stated-kind, stands-over, claim-well, verdict-stands}
 use Rattle.judge.specs.Records.{recordsTo, length-records}
 use Rattle.judge.specs.Totals.{isAccepted, isRefuted, isUnjudged, countTo, totalsTo, together, totalsWord, totals-add-up}
 use Rattle.judge.specs.Run.{Room, verdictAt, recordAt, codeAt, admittedOn, admitted, refusedWord, answerOn, bufferOn, answerOf, bufferOf}
@@ -60,10 +61,17 @@ pub record Says (c : Claim) (r : Record) : Type 0 where
   -- "For other codes the twenty bytes are 0."
   pub else-zero : ¬ (r .code ≡ 2) → (r .tick ≡ 0) × (r .left ≡ 0) × (r .right ≡ 0)
 
--- claim k of a sound book: what its field states of the book's curves
+-- claim k of a sound book, as its bytes say it: "kind, left, right (1 each), then h (1) for kinds 1 to 3 or X (4) for 4 to 7"
+abbrev pub claimContent : List ℕ → Contents → ℕ → List ℕ
+claimContent s c k = contentAt s (getD (c .claims) k 0)
+
 abbrev pub IsClaim : List ℕ → Contents → ℕ → Claim → Type 0
 IsClaim s c k claim =
-    (st : Stated) × (claimField (length (c .curves)) (contentAt s (getD (c .claims) k 0)) ≡ claim-field.Stated st) × (claim ≡ claimOn s (c .curves) st)
+    (κ : Kind) × (kindIn (claimContent s c k) ≡ some κ) × (claim ≡ claimOn s (c .curves) (statedIn κ (claimContent s c k)))
+
+-- the curve that the n-th byte of a claim's content names: 1 the left, 2 the right, 3 the claimed one
+abbrev pub claimCurve : List ℕ → Contents → ℕ → ℕ → Curve
+claimCurve s c k n = curveNamed s (c .curves) (idIn (claimContent s c k) n)
 
 pub record ClaimJudged (s : List ℕ) (c : Contents) (k : ℕ) (r : Record) : Type 0 where
   pub claim : Claim
@@ -216,12 +224,15 @@ module _ (s b : List ℕ) (c : Contents) (so : readBook s ≡ sound c) (room : R
       let is : recordOf (verdict claim) ≡ recordAt s c k = ap recordOf (sym (verdict-stands over)) in (
         record {
           claim = claim;
-          is-claim = (over .stands .stated, over .stands .so, refl);
+          is-claim = said (stated-kind _ _ _ (over .stands .so));
           well-formed = well;
           says = subst (Says claim) is (verdict-says claim well);
         },
         subst Fits is (record-fits claim well),
       )
+    where
+      said : {st : Stated} → (κ : Kind) × (kindIn (claimContent s c k) ≡ some κ) × (st ≡ statedIn κ (claimContent s c k)) → IsClaim s c k (claimOn s (c .curves) st)
+      said (κ, kind, e) = (κ, kind, ap (claimOn s (c .curves)) e)
 
   -- what is read from the buffer again
   pub record-back : (k : ℕ) → k < claims → recordIn after k ≡ recordAt s c k
@@ -277,15 +288,25 @@ module _ (s b : List ℕ) where
       go (refused x p) e near = inr (is-refused x p e near)
 
 -- kind 3, accepted: h(n) is the least f(u)+g(n-u), at every n
-pub accepted-convolution : {s : List ℕ} {c : Contents} {k : ℕ} {r : Record} → (judged : ClaimJudged s c k r) → (f g h : Curve) → judged .claim ≡ equals convolution f g h
-    → r .code ≡ 1 → (n : ℕ)
-    → ((u v : ℕ) → u + v ≡ n → value h n ≤ value f u + value g v) × ((u : ℕ) × (v : ℕ) × (u + v ≡ n) × (value h n ≡ value f u + value g v))
+pub accepted-convolution : {s : List ℕ} {c : Contents} {k : ℕ} {r : Record} → ClaimJudged s c k r → kindIn (claimContent s c k) ≡ some (result convolution) → r .code ≡ 1
+    → (n : ℕ)
+    → ((u v : ℕ) → u + v ≡ n → value (claimCurve s c k 3) n ≤ value (claimCurve s c k 1) u + value (claimCurve s c k 2) v)
+    × ((u : ℕ) × (v : ℕ) × (u + v ≡ n) × (value (claimCurve s c k 3) n ≡ value (claimCurve s c k 1) u + value (claimCurve s c k 2) v))
 unfolding due
-accepted-convolution {r = r} judged f g h is code n =
-    let says : Says (equals convolution f g h) r = subst (λ (x : Claim). Says x r) is (judged .says) in
+accepted-convolution {s} {c} {k} {r} judged kind code n =
+    let f : Curve = claimCurve s c k 1 in
+    let g : Curve = claimCurve s c k 2 in
+    let h : Curve = claimCurve s c k 3 in
+    let is : judged .is-claim .0 ≡ result convolution = ap (kindOr (result convolution)) (sym (judged .is-claim .1) ∙ kind) in
+    let claim : judged .claim ≡ equals convolution f g h = judged .is-claim .2 ∙ ap (λ (κ : Kind). claimOn s (c .curves) (statedIn κ (claimContent s c k))) is in
+    let says : Says (equals convolution f g h) r = subst (λ (x : Claim). Says x r) claim (judged .says) in
     let equal : value h n ≡ conv (value f) (value g) n = says .code-1 .0 code .1 n in
     let least = conv-attained (value f) (value g) n in
     (λ u v e. rw equal (conv-below (value f) (value g) n u v e), (least .0, least .1, least .2, equal ∙ least .3))
+  where
+    kindOr : Kind → Option Kind → Kind
+    kindOr κ none = κ
+    kindOr κ (some x) = x
 
 -- W8 with a buffer of 24 bytes: accepted, and the last three stay
 pub inspected-w8 : (answerOf w8 (replicate 24 7) ≡ 2 ^ 24) × (bufferOf w8 (replicate 24 7) ≡ 1 ∷ (replicate 20 0 ++ replicate 3 7))
