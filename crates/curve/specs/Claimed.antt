@@ -3,7 +3,8 @@
 --     operationOf               kinds 1 to 3
 --     deviationOf, amountOf       kinds 4 to 7, and their X
 --     claimOver                 the claim, from the enum and curves
---     claimOf, boundOf          the same, of curves in their working copies
+--     claimOf                   the same, of curves in their working copies
+--     resultOf, boundOf         a claim of kinds 1 to 3 alone, and of kinds 4 to 7
 --     two-well                  of a well-formed claim the left and the right curve are well formed
 use Prim.Native.Nat.{ℕ}
 use Rattle.minplus.specs.Claim as C
@@ -41,7 +42,9 @@ claimOver (Exactly x) f g h = C.bounds (deviationOf x) C.exactly f g (amountOf x
 abbrev pub claimOf : Claim → Curve → Curve → Curve → C.Claim
 claimOf c f g h = claimOver c (curveOf f) (curveOf g) (curveOf h)
 
--- a bound alone
+abbrev pub resultOf : Operation → Curve → Curve → Curve → C.Claim
+resultOf o f g h = C.equals (operationOf o) (curveOf f) (curveOf g) (curveOf h)
+
 abbrev pub boundOf : Deviation → C.Tightness → Curve → Curve → C.Claim
 boundOf x t f g = C.bounds (deviationOf x) t (curveOf f) (curveOf g) (amountOf x)
 

@@ -1,16 +1,20 @@
 -- The table of a curve's values at the ticks from 0 on, in 32 bits.
 --
 --     largest, cell      a value, or the largest number of 32 bits where it needs more
---     tableOf            the values at the first count ticks, 0 from there on
+--     over F k s         s with F(0) to F(k-1) over its first k places: over-none, over-more, before the first store and after one more;
+--                        over-length, as many places as before; over-at, what is stored
+--     tableOver          the values over as many places as there are, at most 4,097
 --     table-at           of a well-formed curve each of them is the value itself
-use Prim.Native.Nat.{ℕ, _+_, _≤_, _<_, min}
-use mathlib.Core.Path.{_≡_, _∙_}
-use mathlib.Core.List.{List}
+use Prim.Native.Nat.{ℕ, suc, _+_, _≤_, _<_, min}
+use mathlib.Core.Path.{_≡_, refl, sym, _∙_}
+use mathlib.Core.List.{List, [], _∷_, _++_}
 use native.Mathlib.Omega.{arith}
-use lib.ListN.{getD}
+use native.Mathlib.Numerals.{add-one}
+use lib.ListN.{length, getD, set, drop, length-append, length-drop, List·getD-append}
+use lib.Seq.{append-snoc, drop-cons, set-at}
 use Rattle.minplus.specs.Curve as C
 use Rattle.minplus.specs.Horizon.{maxHorizon}
-use Rattle.curve.specs.Filled.{filled, filled-at}
+use Rattle.curve.specs.Filled.{listOf, length-listOf, listOf-at}
 
 -- the largest number of 32 bits
 abbrev pub largest : ℕ
@@ -19,12 +23,38 @@ largest = 4_294_967_295
 abbrev pub cell : C.Curve → ℕ → ℕ
 cell f n = min (C.value f n) largest
 
-unfoldable pub tableOf : C.Curve → ℕ → List ℕ
-unfolding filled C.value
-tableOf f count = filled (cell f) (maxHorizon + 1) (min count (maxHorizon + 1))
+unfoldable pub over : (ℕ → ℕ) → ℕ → List ℕ → List ℕ
+unfolding listOf
+over F k s = listOf F k ++ drop k s
 
--- at each tick that is asked for it holds the value: 1,000,000 * 4,097 is below 2^32
-pub table-at : {f : C.Curve} → C.WellFormed f → (count n : ℕ) → n < count → count ≤ maxHorizon + 1 → getD (tableOf f count) n 0 ≡ C.value f n
-unfolding tableOf
-table-at {f} w count n lt within =
-    filled-at (cell f) (maxHorizon + 1) (min count (maxHorizon + 1)) n (omega arith) ∙ omega (arith, C.value-at-most f w n)
+unfoldable pub tableOver : C.Curve → List ℕ → List ℕ
+unfolding over C.value
+tableOver f s = over (cell f) (min (length s) (maxHorizon + 1)) s
+
+pub over-none : (F : ℕ → ℕ) (s : List ℕ) → over F 0 s ≡ s
+unfolding over
+over-none F s = refl
+
+pub over-more : (F : ℕ → ℕ) (k : ℕ) (s : List ℕ) → k < length s → set (over F k s) k (F k) ≡ over F (k + 1) s
+unfolding over
+over-more F k s lt =
+    rw (add-one k, drop-cons s k 0 lt)
+    (set-at (listOf F k) (getD s k 0) (drop (suc k) s) (F k) k (length-listOf F k) ∙ sym (append-snoc (listOf F k) (F k) (drop (suc k) s)))
+
+pub over-length : (F : ℕ → ℕ) (k : ℕ) (s : List ℕ) → k ≤ length s → length (over F k s) ≡ length s
+unfolding over
+over-length F k s le = simp (length-append, length-listOf F k, length-drop) (omega arith)
+
+pub over-at : (F : ℕ → ℕ) (k : ℕ) (s : List ℕ) (n : ℕ) → n < k → getD (over F k s) n 0 ≡ F n
+unfolding over
+over-at F k s n lt = List·getD-append (listOf F k) (drop k s) 0 n (omega (arith, length-listOf F k)) ∙ listOf-at F k n lt
+
+-- at each tick that has a place it holds the value: 1,000,000 * 4,097 is below 2^32
+pub table-at : {f : C.Curve} → C.WellFormed f → (s : List ℕ) (n : ℕ) → n < length s → n ≤ maxHorizon → getD (tableOver f s) n 0 ≡ C.value f n
+unfolding tableOver
+table-at {f} w s n lt within =
+    over-at (cell f) (min (length s) (maxHorizon + 1)) s n (omega arith) ∙ omega (arith, C.value-at-most f w n)
+
+pub table-length : (f : C.Curve) (s : List ℕ) → length (tableOver f s) ≡ length s
+unfolding tableOver
+table-length f s = over-length (cell f) (min (length s) (maxHorizon + 1)) s (omega arith)

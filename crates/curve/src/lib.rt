@@ -108,6 +108,3 @@ fn limited(x: u32, claim: Claim) -> Named
         Named::Claim(claim)
     }
 }
-
-// A curve's values at the ticks 0 to 4,096. Up to there a value, and a sum over a split, fits 32 bits.
-pub type Table = [u32; Claim::MAX_HORIZON + 1];

@@ -1,13 +1,11 @@
-// A curve's value at a tick, and the table of its first values.
+// A curve's value at a tick, and its first values in a lent table.
 ghost use mathlib.Core.Path.{_≡_};
 ghost use Prim.Native.Nat.{_<_, _^_, min};
 ghost use Rattle.minplus.specs.Curve.{value};
 ghost use lib.ListN.{getD, take};
-ghost use Rattle.curve.specs.Held.{heldOf, curveOf};
-ghost use Rattle.curve.specs.Table.{tableOf, largest};
+ghost use Rattle.curve.specs.Held.{heldOf};
+ghost use Rattle.curve.specs.Table.{tableOver, largest};
 use crate::Claim;
-use crate::Curve;
-use crate::Table;
 use crate::Ticks;
 use crate::Units;
 
@@ -53,20 +51,18 @@ fn narrow(x: u64) -> u32
     }
 }
 
-// The values at the first `count` ticks.
-pub fn table(f: Curve, count: usize) -> Table
-    ensures { λ r. ⌜ r ≡ tableOf (curveOf f) count ⌝ }
+// The values at the ticks from 0 on, over the places of `out`: at most 4,097 of them, and what stands after those stays.
+pub fn fill(rank: Ticks, period: Ticks, increment: u32, listed: &[u32], out: &mut [u32])
+    ensures { λ _. ⌜ now (out .exit) ≡ tableOver (heldOf (rank .0) (period .0) increment (now (listed .entry))) (now (out .entry)) ⌝ }
 {
-    let mut values = [0u32; Claim::MAX_HORIZON + 1];
-    let mut end = count;
-    if Claim::MAX_HORIZON + 1 < count {
+    let mut end = out.len();
+    if Claim::MAX_HORIZON + 1 < end {
         end = Claim::MAX_HORIZON + 1;
     }
     let mut n: usize = 0;
     while n < end {
-        let value = value_at(f.rank, f.period, f.increment, &f.listed, Ticks(n as u32));
-        values[n] = narrow(value.0);
+        let value = value_at(rank, period, increment, listed, Ticks(n as u32));
+        out[n] = narrow(value.0);
         n += 1;
     }
-    values
 }

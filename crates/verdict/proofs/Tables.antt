@@ -1,12 +1,14 @@
 -- Kinds 1 to 3 are searched in tables of numbers of 32 bits. Those of well-formed curves hold the curves' values.
 --
 --     due-same                a due value at n asks of its functions only what they are up to n
---     table-summable          in two tables the sum over a split fits,
---     table-due               and the due value is that of their curves
---     judged-summable, judged-break     so of the tables of a judged claim: the search in them finds its first break
+--     table-value             the table of a well-formed curve holds its values up to a judged claim's horizon,
+--     judged-searchable       so the tables of the claim can be searched,
+--     judged-break            and the search finds its first break
 use Prim.Native.Nat.{ℕ, suc, _+_, _-_, _≤_, _<_, min}
 use mathlib.Core.Path.{_≡_}
+use mathlib.Core.List.{List}
 use native.Mathlib.Omega.{arith}
+use lib.ListN.{length}
 use Rattle.minplus.specs.Search.{best-same}
 use Rattle.minplus.specs.Conv.{conv}
 use Rattle.minplus.specs.Curve.{Curve, WellFormed, value, value-at-most}
@@ -16,8 +18,8 @@ use Rattle.minplus.specs.Horizon.{horizon}
 use Rattle.minplus.specs.Verdict.{breaks, leftAt, rightAt, tried}
 use Rattle.curve.specs.declared.Operation.{Operation}
 use Rattle.curve.specs.Claimed.{operationOf}
-use Rattle.curve.specs.Table.{tableOf, table-at}
-use Rattle.verdict.specs.Found.{tableAt, differs, dueIn, Summable, foundOf, found-same}
+use Rattle.curve.specs.Table.{tableOver, table-at, table-length}
+use Rattle.verdict.specs.Found.{tableAt, differs, dueIn, Searchable, foundOf, found-same}
 use Rattle.verdict.specs.Break.{Judgeable, breakOf}
 
 -- the due value at n asks of its functions only what they are up to n
@@ -27,30 +29,33 @@ due-same sum f g f′ g′ n same same′ = cc (same n (omega arith), same′ n 
 due-same minimum f g f′ g′ n same same′ = cc (same n (omega arith), same′ n (omega arith))
 due-same convolution f g f′ g′ n same same′ = best-same min _ _ n (λ u le. cc (same u le, same′ (n - u) (omega arith)))
 
--- k values, up to tick 4,096: 1,000,000 * 4,098 is below 2^32
-module _ (k : ℕ) (within : k ≤ 4097) where
-  table-summable : {f g : Curve} → WellFormed f → WellFormed g → Summable (tableOf f k) (tableOf g k) k
-  table-summable {f} {g} w w′ = record {
-    sums = λ u v lt. omega (arith, table-at w k u (omega arith) within, table-at w′ k v (omega arith) within, value-at-most f w u, value-at-most g w′ v);
+-- up to tick 4,096: 1,000,000 * 4,098 is below 2^32
+module _ (op : Operation) {f g h : Curve} {at : ℕ} (j : Judgeable (equals (operationOf op) f g h) at) (left right claimed : List ℕ)
+    (room : at < length left) (room′ : at < length right) (room″ : at < length claimed) where
+  table-value : {k : Curve} → WellFormed k → (s : List ℕ) → at < length s → (n : ℕ) → n ≤ at → tableAt (tableOver k s) n ≡ value k n
+  table-value w s reaches n le = table-at w s n (omega arith) (omega (arith, j .within))
+
+  pub judged-searchable : Searchable (tableOver f left) (tableOver g right) (tableOver h claimed) (at + 1)
+  judged-searchable = record {
+    within = omega (arith, j .within);
+    left = omega (arith, table-length f left);
+    right = omega (arith, table-length g right);
+    claimed = omega (arith, table-length h claimed);
+    sums = λ u v lt.
+        let w = j .well-formed in
+        let first = table-value (w .0) left room u (omega arith) in
+        let second = table-value (w .1) right room′ v (omega arith) in
+        omega (arith, first, second, j .within, value-at-most f (w .0) u, value-at-most g (w .1) v);
   }
 
-  table-due : (op : C.Operation) {f g : Curve} → WellFormed f → WellFormed g → (n : ℕ) → n < k
-      → due op (tableAt (tableOf f k)) (tableAt (tableOf g k)) n ≡ due op (value f) (value g) n
-  table-due op w w′ n lt = due-same op _ _ _ _ n (λ m le. table-at w k m (omega arith) within) (λ m le. table-at w′ k m (omega arith) within)
-
-module _ (op : Operation) {f g h : Curve} {at : ℕ} (j : Judgeable (equals (operationOf op) f g h) at) where
-  pub judged-summable : Summable (tableOf f (at + 1)) (tableOf g (at + 1)) (at + 1)
-  judged-summable = table-summable (at + 1) (omega (arith, j .within)) (j .well-formed .0) (j .well-formed .1)
-
-  pub judged-break : foundOf (differs op (tableOf f (at + 1)) (tableOf g (at + 1)) (tableOf h (at + 1))) (dueIn op (tableOf f (at + 1)) (tableOf g (at + 1)))
-      (tableAt (tableOf h (at + 1))) (at + 1)
+  pub judged-break : foundOf (differs op (tableOver f left) (tableOver g right) (tableOver h claimed)) (dueIn op (tableOver f left) (tableOver g right))
+      (tableAt (tableOver h claimed)) (at + 1)
       ≡ breakOf (equals (operationOf op) f g h)
   unfolding breaks leftAt rightAt tried
   judged-break =
       let w = j .well-formed in
-      let within : at + 1 ≤ 4097 = omega (arith, j .within) in
       let last : suc (horizon (equals (operationOf op) f g h)) ≡ at + 1 = omega (arith, j .is-horizon) in
       rw last (found-same _ _ _ _ _ _ (at + 1) (λ n lt.
-      let left = table-due (at + 1) within (operationOf op) (w .0) (w .1) n lt in
-      let right = table-at (w .2) (at + 1) n lt within in
-      (cc, left, right)))
+      let here = due-same (operationOf op) _ _ _ _ n (λ m le. table-value (w .0) left room m (omega arith)) (λ m le. table-value (w .1) right room′ m (omega arith)) in
+      let there = table-value (w .2) claimed room″ n (omega arith) in
+      (cc, here, there)))

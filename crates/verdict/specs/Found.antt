@@ -3,21 +3,22 @@
 --     tableAt         a table's value at a tick
 --     dueIn           kinds 1 to 3: the value that the claimed table has to have at a tick
 --     differs         it has another there
---     Summable        over every split of a tried tick the sum fits 32 bits
+--     Searchable      every tried tick has a value in each of three tables, and over every split of one the sum fits 32 bits
 --     foundOf         the first of the tried ticks that passes a test, with the two values there
 --     found-at        it is n, if no tick before n passes and n does
 --     found-nowhere   there is none, if no tried tick passes
 --     found-same      tests and values that agree at every tried tick find the same
-use Prim.Native.Nat.{ℕ, _+_, _<_}
+use Prim.Native.Nat.{ℕ, _+_, _≤_, _<_}
 use mathlib.Core.Path.{_≡_, sym, _∙_}
 use mathlib.Core.List.{List}
 use mathlib.Core.Bool.{Bool, true, false, not}
 use mathlib.Core.Option.{Option, none, some}
 use native.Mathlib.Omega.{arith}
-use lib.ListN.{getD}
+use lib.ListN.{length, getD}
 use lib.Dec.{eqb}
 use Rattle.minplus.specs.Search.{IsFirst, firstBelow, first-at, first-below, first-nowhere, nowhere, somewhere}
 use Rattle.minplus.specs.Claim as C
+use Rattle.minplus.specs.Horizon.{maxHorizon}
 use Rattle.curve.specs.declared.Operation.{Operation}
 use Rattle.curve.specs.Claimed.{operationOf}
 use Rattle.verdict.specs.declared.search.Found.{Found}
@@ -32,8 +33,12 @@ dueIn op f g = C.due (operationOf op) (tableAt f) (tableAt g)
 abbrev pub differs : Operation → List ℕ → List ℕ → List ℕ → ℕ → Bool
 differs op f g h n = not (eqb (dueIn op f g n) (tableAt h n))
 
--- not so of the two values at one tick: at the last ticks their sum is larger
-pub record Summable (f g : List ℕ) (tried : ℕ) : Type 0 where
+-- the sum of the two values at one tick need not fit: at the last ticks it is larger
+pub record Searchable (f g h : List ℕ) (tried : ℕ) : Type 0 where
+  pub within : tried ≤ maxHorizon + 1
+  pub left : tried ≤ length f
+  pub right : tried ≤ length g
+  pub claimed : tried ≤ length h
   pub sums : (u v : ℕ) → u + v < tried → tableAt f u + tableAt g v < 4_294_967_296
 
 -- At, of plain numbers

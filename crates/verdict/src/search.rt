@@ -1,22 +1,26 @@
 // The searches over a claim's ticks.
 ghost use mathlib.Core.Path.{_≡_};
-ghost use Prim.Native.Nat.{_≤_};
+ghost use Prim.Native.Nat.{_≤_, _<_};
+ghost use lib.ListN.{length};
 ghost use Rattle.minplus.specs.Curve.{value};
 ghost use Rattle.minplus.specs.Claim.{allowed, atMost, exactly};
 ghost use Rattle.minplus.specs.Verdict.{lessHolds};
-ghost use Rattle.curve.specs.Held.{heldOf};
-ghost use Rattle.curve.specs.Claimed.{amountOf, boundOf, claimOf, deviationOf};
-ghost use Rattle.verdict.specs.Found.{foundOf, differs, dueIn, tableAt, Summable};
+ghost use Rattle.curve.specs.Held.{curveOf, heldOf};
+ghost use Rattle.curve.specs.Table.{tableOver};
+ghost use Rattle.curve.specs.Claimed.{amountOf, boundOf, claimOf, deviationOf, resultOf};
+ghost use Rattle.verdict.specs.Found.{foundOf, differs, dueIn, tableAt, Searchable};
 ghost use Rattle.verdict.specs.Break.{Allowable, Judgeable, breakOf, isNowhere};
 use curve::Claim;
 use curve::Curve;
 use curve::Deviation;
 use curve::Operation;
-use curve::Table;
 use curve::Ticks;
 use curve::Units;
-use curve::values::table;
+use curve::values::fill;
 use curve::values::value_at;
+
+// The last horizon that has small tables. Up to about there, zeroing large ones would take longer than all else.
+const NEAR: usize = 127;
 
 // The first tick that breaks the rule, with its left and its right value.
 pub(crate) enum Found {
@@ -30,9 +34,9 @@ pub(crate) enum Found {
 
 // Kinds 1 to 3: the first of the `tried` ticks at which the due value differs from the claimed one.
 // A sum over a split fits 32 bits, so the least is sought at that width; a sum of two values at one tick need not fit.
-// Values are read through references: of what a reference shows the prover knows the range, of an element it does not.
-fn first_difference(operation: Operation, f: &Table, g: &Table, h: &Table, tried: usize) -> Found
-    requires { ⌜ (tried ≤ 4097) × Summable (now f) (now g) tried ⌝ }
+// Values are read through references: of what a reference shows the prover knows the range, of an element it has to be told.
+fn first_difference(operation: Operation, f: &[u32], g: &[u32], h: &[u32], tried: usize) -> Found
+    requires { ⌜ Searchable (now f) (now g) (now h) tried ⌝ }
     ensures { λ r. ⌜ r ≡ foundOf (differs operation (now (f .entry)) (now (g .entry)) (now (h .entry))) (dueIn operation (now (f .entry)) (now (g .entry))) (tableAt (now (h .entry))) tried ⌝ }
 {
     let mut found = Found::Nowhere;
@@ -74,6 +78,76 @@ fn first_difference(operation: Operation, f: &Table, g: &Table, h: &Table, tried
         n += 1;
     }
     found
+}
+
+// The array is lent on, so that it is not copied again.
+fn put_values(f: Curve, table: &mut [u32])
+    ensures { λ _. ⌜ now (table .exit) ≡ tableOver (curveOf f) (now (table .entry)) ⌝ }
+{
+    fill(f.rank, f.period, f.increment, &f.listed, table);
+}
+
+// Kinds 1 to 3: the first tried tick that breaks the rule, in tables that are lent.
+fn first_in(
+    operation: Operation,
+    f: Curve,
+    g: Curve,
+    h: Curve,
+    horizon: usize,
+    left: &mut [u32],
+    right: &mut [u32],
+    claimed: &mut [u32],
+) -> Found
+    requires { ⌜ Judgeable (resultOf operation f g h) horizon × (horizon < length (now left)) × (horizon < length (now right)) × (horizon < length (now claimed)) ⌝ }
+    ensures { λ r. ⌜ r ≡ breakOf (resultOf operation f g h) ⌝ }
+{
+    put_values(f, left);
+    put_values(g, right);
+    put_values(h, claimed);
+    let tried = horizon + 1;
+    first_difference(operation, left, right, claimed, tried)
+}
+
+// In small tables of its own.
+fn first_near(operation: Operation, f: Curve, g: Curve, h: Curve, horizon: usize) -> Found
+    requires { ⌜ Judgeable (resultOf operation f g h) horizon × (horizon ≤ 127) ⌝ }
+    ensures { λ r. ⌜ r ≡ breakOf (resultOf operation f g h) ⌝ }
+{
+    let tried = horizon + 1;
+    let mut left = [0u32; NEAR + 1];
+    let mut right = [0u32; NEAR + 1];
+    let mut claimed = [0u32; NEAR + 1];
+    first_in(
+        operation,
+        f,
+        g,
+        h,
+        horizon,
+        &mut left[..tried],
+        &mut right[..tried],
+        &mut claimed[..tried],
+    )
+}
+
+// In tables of its own that are large enough for any horizon that is judged.
+fn first_far(operation: Operation, f: Curve, g: Curve, h: Curve, horizon: usize) -> Found
+    requires { ⌜ Judgeable (resultOf operation f g h) horizon ⌝ }
+    ensures { λ r. ⌜ r ≡ breakOf (resultOf operation f g h) ⌝ }
+{
+    let tried = horizon + 1;
+    let mut left = [0u32; Claim::MAX_HORIZON + 1];
+    let mut right = [0u32; Claim::MAX_HORIZON + 1];
+    let mut claimed = [0u32; Claim::MAX_HORIZON + 1];
+    first_in(
+        operation,
+        f,
+        g,
+        h,
+        horizon,
+        &mut left[..tried],
+        &mut right[..tried],
+        &mut claimed[..tried],
+    )
 }
 
 // Kinds 4 to 7: the right value at a tick, of a curve whose array is lent, so that no call copies it.
@@ -135,11 +209,11 @@ pub(crate) fn first_break(claim: Claim, f: Curve, g: Curve, h: Curve, horizon: u
 {
     match claim {
         Claim::Equals(operation) => {
-            let tried = horizon + 1;
-            let left = table(f, tried);
-            let right = table(g, tried);
-            let claimed = table(h, tried);
-            first_difference(operation, &left, &right, &claimed, tried)
+            if NEAR < horizon {
+                first_far(operation, f, g, h, horizon)
+            } else {
+                first_near(operation, f, g, h, horizon)
+            }
         }
         Claim::AtMost(deviation) => first_over(deviation, f, g, horizon),
         Claim::Exactly(deviation) => first_over(deviation, f, g, horizon),

@@ -34,14 +34,14 @@ ticks-holds c = (omega arith, refl, below-none _)
 mul-left : tie.Need-mul-left Inv-loop μ-loop Inv-ticks μ-ticks
 mul-left c = omega arith
 
-index-1-left : tie.Need-index-1-left Inv-loop μ-loop Inv-ticks μ-ticks
-index-1-left c = omega arith
+shared-slice-element-left : tie.Need-shared-slice-element-left Inv-loop μ-loop Inv-ticks μ-ticks
+shared-slice-element-left c = omega arith
 
 mul-right : tie.Need-mul-right Inv-loop μ-loop Inv-ticks μ-ticks
 mul-right c = omega arith
 
-index-1-right : tie.Need-index-1-right Inv-loop μ-loop Inv-ticks μ-ticks
-index-1-right c = omega arith
+shared-slice-element-right : tie.Need-shared-slice-element-right Inv-loop μ-loop Inv-ticks μ-ticks
+shared-slice-element-right c = omega arith
 
 enum-told : tie.Need-enum-told Inv-loop μ-loop Inv-ticks μ-ticks
 enum-told c = search needs
@@ -55,11 +55,11 @@ enum-told-2 c = search needs
 enum-told-3 : tie.Need-enum-told-3 Inv-loop μ-loop Inv-ticks μ-ticks
 enum-told-3 c = search needs
 
-element-copy-out-least : tie.Need-element-copy-out-least Inv-loop μ-loop Inv-ticks μ-ticks
-element-copy-out-least c = omega arith
+shared-slice-read-least : tie.Need-shared-slice-read-least Inv-loop μ-loop Inv-ticks μ-ticks
+shared-slice-read-least c = omega arith
 
 add-least : tie.Need-add-least Inv-loop μ-loop Inv-ticks μ-ticks
-add-least c = omega (arith, c .before .before .before .before .before .before .before .before .pre .1 .sums 0 (c .before .before .before .before .before .before .before .ticks .n) (omega arith))
+add-least c = omega (arith, c .before .before .before .before .before .before .before .before .pre .sums 0 (c .before .before .before .before .before .before .before .ticks .n) (omega arith))
 
 loop-holds : tie.Need-loop-holds Inv-loop μ-loop Inv-ticks μ-ticks
 loop-holds c = least-first _ _ _
@@ -67,20 +67,20 @@ loop-holds c = least-first _ _ _
 mul-split : tie.Need-mul-split Inv-loop μ-loop Inv-ticks μ-ticks
 mul-split c = omega arith
 
-element-copy-out-split : tie.Need-element-copy-out-split Inv-loop μ-loop Inv-ticks μ-ticks
-element-copy-out-split c = omega arith
+shared-slice-read-split : tie.Need-shared-slice-read-split Inv-loop μ-loop Inv-ticks μ-ticks
+shared-slice-read-split c = omega arith
 
 mul-split-2 : tie.Need-mul-split-2 Inv-loop μ-loop Inv-ticks μ-ticks
 mul-split-2 c = omega arith
 
-element-copy-out-split-2 : tie.Need-element-copy-out-split-2 Inv-loop μ-loop Inv-ticks μ-ticks
-element-copy-out-split-2 c = omega arith
+shared-slice-read-split-2 : tie.Need-shared-slice-read-split-2 Inv-loop μ-loop Inv-ticks μ-ticks
+shared-slice-read-split-2 c = omega arith
 
 add-split : tie.Need-add-split Inv-loop μ-loop Inv-ticks μ-ticks
 add-split c =
     let u = c .before .before .before .loop .u in
     let n = c .before .before .before .before .before .before .before .before .before .before .before .ticks .n in
-    omega (arith, c .before .before .before .before .before .before .before .before .before .before .before .before .pre .1 .sums u (n - u) (omega arith))
+    omega (arith, c .before .before .before .before .before .before .before .before .before .before .before .before .pre .sums u (n - u) (omega arith))
 
 add-u : tie.Need-add-u Inv-loop μ-loop Inv-ticks μ-ticks
 add-u c = omega arith
@@ -99,8 +99,8 @@ cast-due c = omega (arith, add-least (c .before .before))
 mul-claimed : tie.Need-mul-claimed Inv-loop μ-loop Inv-ticks μ-ticks
 mul-claimed c = omega arith
 
-index-1-claimed : tie.Need-index-1-claimed Inv-loop μ-loop Inv-ticks μ-ticks
-index-1-claimed c = omega arith
+shared-slice-element-claimed : tie.Need-shared-slice-element-claimed Inv-loop μ-loop Inv-ticks μ-ticks
+shared-slice-element-claimed c = omega arith
 
 due-is : (c : tie.At-match-came Inv-loop μ-loop Inv-ticks μ-ticks) → c .match .due ≡ dueIn (c .before .before .before .before .before .args .operation) (now (c .before .before .before .before .before .args .f)) (now (c .before .before .before .before .before .args .g)) (c .before .before .before .before .ticks .n)
 unfolding due
@@ -111,8 +111,8 @@ due-is c =
     (λ w. rw (w .1 .given .1) (w .6 ∙ least-all (w .4 .inv) (w .5 .left)))))
     (c .match .came)
 
-cast-t50 : tie.Need-cast-t50 Inv-loop μ-loop Inv-ticks μ-ticks
-cast-t50 c = omega arith
+cast-t44 : tie.Need-cast-t44 Inv-loop μ-loop Inv-ticks μ-ticks
+cast-t44 c = omega arith
 
 add-n : tie.Need-add-n Inv-loop μ-loop Inv-ticks μ-ticks
 add-n c = omega arith
@@ -148,28 +148,28 @@ first-difference-spec =
     μ-ticks
     ticks-holds
     mul-left
-    index-1-left
+    shared-slice-element-left
     mul-right
-    index-1-right
+    shared-slice-element-right
     enum-told
     add-due
     enum-told-2
     enum-told-3
-    element-copy-out-least
+    shared-slice-read-least
     add-least
     loop-holds
     mul-split
-    element-copy-out-split
+    shared-slice-read-split
     mul-split-2
-    element-copy-out-split-2
+    shared-slice-read-split-2
     add-split
     add-u
     loop-less
     loop-again
     cast-due
     mul-claimed
-    index-1-claimed
-    cast-t50
+    shared-slice-element-claimed
+    cast-t44
     add-n
     ticks-less
     ticks-again
