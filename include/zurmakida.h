@@ -24,7 +24,7 @@
    - The memory is lent for the call and stays the caller's: no pointer is kept, nothing is allocated, nothing is to be freed.
    - There is no state outside the arguments: the same input has the same answer, always. Calls may run at once in any number of
      threads, and may share a book; each has its own verdict buffer.
-   - Stack: one call of judge takes at most 82,544 bytes, one of curve_value 4,320, and what memcpy and memset of the C library take beside
+   - Stack: one call of judge takes at most 64,248 bytes, one of curve_value 4,320, and what memcpy and memset of the C library take beside
      (bench/stack reads it off the machine code).
 
    The book, in short. Numbers stand high byte first. A field is a tag (1 byte), the length of its content (2 bytes) and the content.
