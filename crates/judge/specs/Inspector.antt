@@ -8,6 +8,7 @@
 --     inspected               for any s and b; record-back: record k of the buffer is the record on claim k
 --     IsClaim, claimCurve     claim k and its curves, as the claim's bytes say it
 --     accepted-convolution    for the code 1 of kind 3 spelled out: h(n) is the least f(u)+g(n-u), at every n
+--     certified-means         a certified book: at least one claim, and each holds at every tick
 --     inspected-w8            W8 is such a book
 use Prim.Native.Nat.{ℕ, zero, suc, _+_, _*_, _≤_, _<_, _^_}
 use mathlib.Core.Path.{_≡_, refl, sym, ap, subst, _∙_}
@@ -17,8 +18,9 @@ use mathlib.Core.Option.{Option, none, some}
 use mathlib.Core.Logic.{_↔_, _⊎_, inl, inr}
 use native.Mathlib.Omega.{arith}
 use lib.ListN.{length, getD, drop, replicate}
-use lib.Dec.{ltb, eqb}
-use borrow.Author.Tests.{ltb-false}
+use lib.Dec.{leb, ltb, eqb}
+use borrow.Author.Tests.{ltb-false, leb-true, le-leb, eqb-true, eq-eqb}
+use Rattle.minplus.specs.Search.{both-true}
 use Rattle.minplus.specs.Curve.{Curve, value}
 use Rattle.minplus.specs.Claim.{kindBy, Kind, Claim, Claimed, WellFormedClaim, result, equals, convolution, due}
 use Rattle.minplus.specs.Conv.{conv, conv-below, conv-attained}
@@ -37,10 +39,10 @@ use Rattle.book.specs.Ground.{w8}
 use Rattle.book.specs.Sound.{sound-book, refused-inside}
 use Rattle.numbers.specs.Numbers.{numberAt}
 use Rattle.numbers.specs.Put.{put, length-put, drop-put}
-use Rattle.judge.specs.Answer.{answer-parts, refusalIn, placeIn, acceptedIn, refutedIn, unjudgedIn, claimsIn, recordSize, codeIn, recordIn}
+use Rattle.judge.specs.Answer.{answer-parts, refusalIn, placeIn, acceptedIn, refutedIn, unjudgedIn, claimsIn, certified, recordSize, codeIn, recordIn}
 use Rattle.judge.specs.Claims.{curveNamed, claimOn, stated-kind, stands-over, claim-well, verdict-stands}
 use Rattle.judge.specs.Records.{recordsTo, length-records}
-use Rattle.judge.specs.Totals.{isAccepted, isRefuted, isUnjudged, countTo, totalsTo, together, totalsWord, totals-add-up}
+use Rattle.judge.specs.Totals.{isAccepted, isRefuted, isUnjudged, countTo, totalsTo, together, totalsWord, totals-add-up, count-all}
 use Rattle.judge.specs.Run.{Room, verdictAt, recordAt, codeAt, admittedOn, admitted, refusedWord, answerOn, bufferOn, answerOf, bufferOf}
 use Rattle.judge.specs.Readback.{Fits, record-fits, records-back}
 
@@ -307,6 +309,28 @@ accepted-convolution {s} {c} {k} {r} judged kind code n =
     kindOr : Kind → Option Kind → Kind
     kindOr κ none = κ
     kindOr κ (some x) = x
+
+-- "yes exactly when there is at least one claim and all are accepted": each is within the limit and holds at every tick
+pub certified-means : {s b : List ℕ} {a : ℕ} {after : List ℕ} → (judged : Judged s b a after)
+    → (certified (claimsIn a) (acceptedIn a) ≡ true)
+    ↔ ((1 ≤ length (judged .contents .claims))
+    × ((k : ℕ) (lt : k < length (judged .contents .claims)) → (horizon (judged .each-claim k lt .claim) ≤ maxHorizon) × Claimed (judged .each-claim k lt .claim)))
+certified-means {a = a} {after = after} judged =
+    let claims : ℕ = length (judged .contents .claims) in
+    let tests = both-true (leb 1 (claimsIn a)) (eqb (acceptedIn a) (claimsIn a)) in
+    let all = count-all isAccepted (codeIn after) claims in
+    let some-claim : 1 ≤ claims → 1 ≤ claimsIn a = λ le. omega (arith, le, judged .add-up) in (
+      λ e. (
+        rw (← judged .add-up) (leb-true 1 (claimsIn a) (tests .0 e .0)),
+        λ k lt.
+            judged .each-claim k lt .says .code-1 .0
+            (eqb-true _ _ (all .0 (sym (judged .accepted-count) ∙ eqb-true _ _ (tests .0 e .1) ∙ judged .add-up) k lt)),
+      ),
+      λ w. tests .1 (
+        le-leb 1 (claimsIn a) (some-claim (w .0)),
+        eq-eqb (acceptedIn a) (claimsIn a) (judged .accepted-count ∙ all .1 (λ k lt. eq-eqb _ _ (judged .each-claim k lt .says .code-1 .1 (w .1 k lt))) ∙ sym (judged .add-up)),
+      ),
+    )
 
 -- W8 with a buffer of 24 bytes: accepted, and the last three stay
 pub inspected-w8 : (answerOf w8 (replicate 24 7) ≡ 2 ^ 24) × (bufferOf w8 (replicate 24 7) ≡ 1 ∷ (replicate 20 0 ++ replicate 3 7))

@@ -7,10 +7,13 @@
 --     together                their sum
 --     totalsWord              as an answer
 --     totals-add-up           of verdicts they add up
-use Prim.Native.Nat.{ℕ, zero, suc, _+_, _≤_}
+--     count-all               all are such exactly when as many are
+use Prim.Native.Nat.{ℕ, zero, suc, _+_, _≤_, _<_}
 use mathlib.Core.Path.{_≡_, refl}
+use mathlib.Core.Logic.{_↔_, inl, inr}
 use mathlib.Core.Bool.{Bool, true, false, _||_}
 use native.Mathlib.Omega.{arith}
+use native.Mathlib.Nat.{eq-or-lt-of-le, le-of-suc-le-suc}
 use native.Mathlib.Numerals.{add-one}
 use lib.Dec.{eqb}
 use Rattle.minplus.specs.Verdict.{Verdict, accepted, refutedAt, refutedByRate, notLeast, notJudged, recordOf}
@@ -77,3 +80,26 @@ totals-add-up f (suc n) = go (f n) _ _ _ (totals-add-up f n)
     go refutedByRate a b c e = omega (arith, e)
     go notLeast a b c e = omega (arith, e)
     go notJudged a b c e = omega (arith, e)
+
+-- of n codes no more than n are such; if n are, each is
+count-most : (p : ℕ → Bool) (codes : ℕ → ℕ) (n : ℕ) → countTo p codes n ≤ n
+unfolding countTo
+count-most p codes zero = omega arith
+count-most p codes (suc n) = go (p (codes n)) (count-most p codes n)
+  where
+    go : (b : Bool) {m : ℕ} → m ≤ n → more b m ≤ suc n
+    go true le = omega (arith, le)
+    go false le = omega (arith, le)
+
+pub count-all : (p : ℕ → Bool) (codes : ℕ → ℕ) (n : ℕ) → (countTo p codes n ≡ n) ↔ ((k : ℕ) → k < n → p (codes k) ≡ true)
+unfolding countTo
+count-all p codes zero = (λ e k lt. absurd (omega (arith, lt)), λ each. refl)
+count-all p codes (suc n) = (to (p (codes n)) refl (count-all p codes n .0), back (count-all p codes n .1))
+  where
+    to : (b : Bool) → p (codes n) ≡ b → (countTo p codes n ≡ n → (k : ℕ) → k < n → p (codes k) ≡ true) → more b (countTo p codes n) ≡ suc n
+        → (k : ℕ) → k < suc n → p (codes k) ≡ true
+    to true is before e k lt = elim (eq-or-lt-of-le (le-of-suc-le-suc lt)) [ inl here ↦ rw here is | inr less ↦ before (omega (arith, e)) k less ]
+    to false is before e k lt = absurd (omega (arith, e, count-most p codes n))
+
+    back : (((k : ℕ) → k < n → p (codes k) ≡ true) → countTo p codes n ≡ n) → ((k : ℕ) → k < suc n → p (codes k) ≡ true) → more (p (codes n)) (countTo p codes n) ≡ suc n
+    back before each = rw (each n (omega arith), before (λ k lt. each k (omega arith))) (omega arith)
