@@ -4,7 +4,7 @@
 --     over F k s         s with F(0) to F(k-1) over its first k places: over-none, over-more, before the first store and after one more;
 --                        over-length, as many places as before; over-at, what is stored
 --     tableOver          the values over as many places as there are, at most 4,097
---     table-at           of a well-formed curve each of them is the value itself
+--     table-at           of a well-formed curve each of them is the value itself; table-length: as many places as before
 use Prim.Native.Nat.{ℕ, suc, _+_, _≤_, _<_, min}
 use mathlib.Core.Path.{_≡_, refl, sym, _∙_}
 use mathlib.Core.List.{List, [], _∷_, _++_}

@@ -9,7 +9,7 @@
 --     IsClaim, claimCurve     claim k and its curves, as the claim's bytes say it
 --     accepted-convolution    for the code 1 of kind 3 spelled out: h(n) is the least f(u)+g(n-u), at every n
 --     certified-means         a certified book: at least one claim, and each holds at every tick
---     inspected-w8            W8 is such a book
+--     inspected-w8            W8 is such a book; inspected-w4: W4 has a claim of kind 3 that is accepted
 use Prim.Native.Nat.{ℕ, zero, suc, _+_, _*_, _≤_, _<_, _^_}
 use mathlib.Core.Path.{_≡_, refl, sym, ap, subst, _∙_}
 use mathlib.Core.Bool.{Bool, true, false}
@@ -336,3 +336,18 @@ certified-means {a = a} {after = after} judged =
 pub inspected-w8 : (answerOf w8 (replicate 24 7) ≡ 2 ^ 24) × (bufferOf w8 (replicate 24 7) ≡ 1 ∷ (replicate 20 0 ++ replicate 3 7))
 unfolding answerOf bufferOf w8 tagBy kindBy numberAt listOf
 inspected-w8 = (refl, refl)
+
+-- version; A; B; their convolution; "A conv B"; end
+unfoldable pub w4 : List ℕ
+w4 =
+    (16 ∷ 0 ∷ 1 ∷ 1 ∷ [])
+    ++ (1 ∷ 0 ∷ 16 ∷ 0 ∷ 1 ∷ 0 ∷ 1 ∷ 0 ∷ 0 ∷ 0 ∷ 1 ∷ 0 ∷ 0 ∷ 0 ∷ 0 ∷ 0 ∷ 0 ∷ 0 ∷ 4 ∷ [])
+    ++ (1 ∷ 0 ∷ 20 ∷ 0 ∷ 2 ∷ 0 ∷ 1 ∷ 0 ∷ 0 ∷ 0 ∷ 2 ∷ 0 ∷ 0 ∷ 0 ∷ 0 ∷ 0 ∷ 0 ∷ 0 ∷ 0 ∷ 0 ∷ 0 ∷ 0 ∷ 0 ∷ [])
+    ++ (1 ∷ 0 ∷ 32 ∷ 0 ∷ 5 ∷ 0 ∷ 1 ∷ 0 ∷ 0 ∷ 0 ∷ 1 ∷ 0 ∷ 0 ∷ 0 ∷ 0 ∷ 0 ∷ 0 ∷ 0 ∷ 0 ∷ 0 ∷ 0 ∷ 0 ∷ 0 ∷ 0 ∷ 0 ∷ 0 ∷ 2 ∷ 0 ∷ 0 ∷ 0 ∷ 4 ∷ 0 ∷ 0 ∷ 0 ∷ 6 ∷ [])
+    ++ (2 ∷ 0 ∷ 4 ∷ 3 ∷ 0 ∷ 1 ∷ 2 ∷ [])
+    ++ (127 ∷ 0 ∷ 0 ∷ [])
+
+-- W4: a claim of kind 3 that is accepted
+pub inspected-w4 : (kindIn (contentAt w4 81) ≡ some (result convolution)) × (codeIn (bufferOf w4 (replicate 21 0)) 0 ≡ 1)
+unfolding w4 bufferOf tagBy kindBy numberAt listOf
+inspected-w4 = (refl, refl)
