@@ -1,7 +1,8 @@
 /* zurmakida.h: the judge of books of min-plus curves and claims, for C99 and C++. x86-64 Linux.
 
    judge() reads a book, decides each of its claims and writes a record of 21 bytes for each into a buffer that the caller lends.
-   curve_value() asks a book for the value of one of its curves at a tick. Both are in the archive libjudge.a; link it after your own code.
+   curve_value() asks a book for the value of one of its curves at a tick. book_begin(), book_add_curve(), book_add_claim() and book_close()
+   write a book. All are in the archive libzurmakida.a; link it after your own code.
 
        uint8_t verdicts[ZURMAKIDA_MAX_VERDICT_BYTES];
        uint64_t answer = judge(book, book_length, verdicts, sizeof verdicts);
@@ -15,15 +16,16 @@
            printf("certified %s\n", zurmakida_certified(answer) ? "yes" : "no");
        }
 
-   What holds for both functions:
+   What holds for all of them:
    - Every input has an answer. No call aborts, loops for ever or waits for anything. No length is too short or too long for an answer.
-   - `book` points to `book_length` bytes that stay readable and unchanged for the length of the call. `verdicts` points to
-     `verdicts_length` bytes that the caller may write and that nobody else reads or writes during the call. Any alignment will do.
-   - The two must not overlap, not in one byte.
+   - What is lent to be read (a book to judge() and curve_value(), the values of a curve) stays readable and unchanged for the length of the
+     call. What is lent to be written (the verdicts, the room for a book) nobody else reads or writes during the call. Bytes may have any
+     alignment; a curve's values are aligned as C aligns uint32_t.
+   - What one call is lent must not overlap, not in one byte.
    - NULL is allowed where the length is 0, and only there.
    - The memory is lent for the call and stays the caller's: no pointer is kept, nothing is allocated, nothing is to be freed.
    - There is no state outside the arguments: the same input has the same answer, always. Calls may run at once in any number of
-     threads, and may share a book; each has its own verdict buffer.
+     threads, and may share a book to read; each has its own bytes to write.
    - Stack: one call of judge takes at most 64,248 bytes, one of curve_value 4,320, and what memcpy and memset of the C library take beside
      (bench/stack reads it off the machine code).
 
@@ -114,7 +116,69 @@ struct curve_value {
    curve is refused with 11, then a tick above 2,000,000,000 with 12, both with place 0. */
 struct curve_value curve_value(const uint8_t *book, size_t book_length, uint64_t curve, uint64_t tick);
 
-/* The parts of an answer. */
+/* ---- writing a book
+
+   Writing goes by book_begin, book_add_curve for each curve, book_add_claim for each claim, book_close. The writer's state is a number: 0
+   before book_begin, then what the last call answered. Each call is taken or refused.
+
+   Taken: `refusal` is 0, the field's bytes stand in `book` after those that the calls before it wrote, no other byte of `book` is touched,
+   and `state` is the new state. Refused: `refusal` is the number, `book` is as it was, and `state` is the state that was passed.
+
+       uint8_t book[ZURMAKIDA_MAX_WRITTEN_BYTES];
+       const uint32_t a[] = {0, 4}, b[] = {0, 0, 0};
+       struct book_call call = book_begin(0, book, sizeof book);
+       call = book_add_curve(call.state, book, sizeof book, 1, 1, 1, a, 2);
+       call = book_add_curve(call.state, book, sizeof book, 2, 1, 2, b, 3);
+       call = book_add_claim(call.state, book, sizeof book, 5, 0, 1, 3);
+       call = book_close(call.state, book, sizeof book);
+
+   (with a look at call.refusal after each) leaves W8 of document 01 in the first zurmakida_written(call.state) bytes. What taken calls have
+   written, from state 0 on and into the same `book`, is always the beginning of a sound book, and after book_close a sound book.
+
+   The refusals, in the order in which they are tried:
+
+        3  out of order: nothing begun, or begun already, or closed, or a curve after a claim. Also a state that no call has given: one with a
+           bit above bit 47, or with more than 32,768 bytes written. (Any other number is taken for the state that its bits say.)
+        4  a 17th curve or a 257th claim
+        7  curve: period 0, or rank + period over 256
+        6  curve: the count of the values is not rank + period
+        8  curve: the increment or a value is over 1,000,000
+        9  curve: a value is below the one before it
+       10  claim: the kind is none of 1 to 7
+       11  claim: left, right or, for kinds 1 to 3, h names no curve that was added
+       12  claim: X, for kinds 4 to 7, is over 1,000,000,000
+       14  too few bytes remain in `book` for this field */
+struct book_call {
+    uint64_t refusal; /* 0 where the call is taken; a writer's refusal has no place */
+    uint64_t state;
+};
+
+#define ZURMAKIDA_MAX_WRITTEN_BYTES 19127 /* room for any book: 16 curves of 256 values and 256 claims */
+
+/* Begins a book: `state` is 0. */
+struct book_call book_begin(uint64_t state, uint8_t *book, size_t book_length);
+
+/* Adds a curve: rank T, period d, increment c and `count` values, f(0) to f(T+d-1). */
+struct book_call book_add_curve(uint64_t state, uint8_t *book, size_t book_length, uint64_t rank, uint64_t period, uint64_t increment,
+                                const uint32_t *values, size_t count);
+
+/* Adds a claim: its kind, the numbers of its left and right curve, and `third`: for kinds 1 to 3 h, the number of the claimed curve, for kinds
+   4 to 7 X. */
+struct book_call book_add_claim(uint64_t state, uint8_t *book, size_t book_length, uint64_t kind, uint64_t left, uint64_t right, uint64_t third);
+
+/* Closes the book. */
+struct book_call book_close(uint64_t state, uint8_t *book, size_t book_length);
+
+/* The parts of a state:
+
+       bits  0 to 15   bytes written
+       bits 16 to 31   claims added
+       bits 32 to 39   curves added
+       bits 40 to 46   version, 0 before book_begin
+       bit  47         closed */
+static inline unsigned zurmakida_written(uint64_t state) { return (unsigned)(state & 0xFFFF); }
+
+/* ---- the parts of an answer of judge() */
 static inline unsigned zurmakida_refusal(uint64_t answer) { return (unsigned)(answer & 0xFF); }
 static inline unsigned zurmakida_place(uint64_t answer) { return (unsigned)((answer >> 8) & 0xFFFF); }
 static inline unsigned zurmakida_accepted(uint64_t answer) { return (unsigned)((answer >> 24) & 0xFFF); }

@@ -11,11 +11,11 @@ use Rattle.minplus.specs.Claim.{kindBy}
 use Rattle.curve.specs.declared.Deviation.the-variants.{Delay}
 use Rattle.curve.specs.declared.Claim.the-variants.{Exactly}
 use Rattle.curve.specs.Filled.{listOf}
-use Rattle.field.specs.declared.Refusal.the-variants.{Torn}
-use Rattle.field.specs.declared.ClaimField.the-variants.{Stated}
+use Rattle.content.specs.declared.Refusal.the-variants.{Torn}
+use Rattle.content.specs.declared.ClaimField.the-variants.{Stated}
 use Rattle.numbers.specs.Numbers.{numberAt}
-use Rattle.field.specs.Layout.{tagBy, contentAt}
-use Rattle.field.specs.Refusals.{claimField}
+use Rattle.field.specs.Fields.{tagBy, contentAt}
+use Rattle.content.specs.Refusals.{claimField}
 use Rattle.book.specs.declared.Asked.the-variants.{Value}
 use Rattle.book.specs.Reading.{Contents, sound, refused, readBook}
 use Rattle.book.specs.Values.{namedCurve, valueAsked}

@@ -11,14 +11,13 @@ use native.Mathlib.Omega.{arith}
 use lib.ListN.{length, set, length-append}
 use borrow.Author.Tests.{le-ltb, leb-false}
 use Rattle.curve.specs.Filled.{inArray, array-more}
-use Rattle.field.specs.declared.Refusal.{Refusal}
+use Rattle.content.specs.declared.Refusal.{Refusal}
 use Rattle.field.specs.declared.Field.{Field}
 use Rattle.field.specs.declared.Field.the-variants as field
 use Rattle.field.specs.declared.Tag.{Tag}
 use Rattle.field.specs.declared.Tag.the-variants as tag
 use Rattle.field.specs.declared.State.{State}
-use Rattle.field.specs.Refusals.{maxCurves, maxClaims}
-use Rattle.field.specs.Steps.{full, after, stepAt, takes, next-inside}
+use Rattle.field.specs.Steps.{maxCurves, maxClaims, full, after, stepAt, takes, next-inside}
 use Rattle.book.specs.declared.Places.{Places}
 use Rattle.book.specs.declared.Book.{Book}
 use Rattle.book.specs.declared.Outcome.{Outcome}

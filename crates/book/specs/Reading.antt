@@ -9,8 +9,8 @@ use mathlib.Core.Bool.{true, false}
 use mathlib.Core.List.{List, [], _∷_, _++_}
 use lib.ListN.{length}
 use lib.Dec.{ltb}
-use Rattle.field.specs.declared.Refusal.{Refusal}
-use Rattle.field.specs.declared.Refusal.the-variants.{Torn, BookTooLong}
+use Rattle.content.specs.declared.Refusal.{Refusal}
+use Rattle.content.specs.declared.Refusal.the-variants.{Torn, BookTooLong}
 use Rattle.field.specs.declared.Tag.the-variants as tag
 use Rattle.field.specs.declared.State.{State}
 use Rattle.field.specs.declared.Field.{Field}

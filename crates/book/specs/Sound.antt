@@ -17,16 +17,16 @@ use lib.Seq.{getD-at}
 use lib.Dec.{ltb, eqb}
 use borrow.Author.Tests.{leb-false, eqb-true, eqb-false, not-true, not-false, ltb-false}
 use Rattle.minplus.specs.Search.{both-true}
-use Rattle.field.specs.declared.Refusal.{Refusal}
-use Rattle.field.specs.declared.Refusal.the-variants.{BookTooLong, WrongVersion}
-use Rattle.field.specs.declared.Checked.the-variants.{Sound, Refused}
+use Rattle.content.specs.declared.Refusal.{Refusal}
+use Rattle.content.specs.declared.Refusal.the-variants.{BookTooLong, WrongVersion}
+use Rattle.content.specs.declared.Checked.the-variants.{Sound, Refused}
 use Rattle.field.specs.declared.Tag.the-variants as tag
 use Rattle.field.specs.declared.State.{State}
 use Rattle.field.specs.declared.Field.{Field}
 use Rattle.field.specs.declared.Field.the-variants as field
-use Rattle.field.specs.Layout.{contentAt, versionIn}
-use Rattle.field.specs.Refusals.{maxCurves, maxClaims, isVersion, on, versionFault, curveFault, claimFault, contentFault, on-sound}
-use Rattle.field.specs.Steps.{inOrder, full, after, stepAt, takes, refused-at, next-inside}
+use Rattle.field.specs.Fields.{contentAt, versionIn}
+use Rattle.content.specs.Refusals.{on, curveFault, claimFault, on-sound}
+use Rattle.field.specs.Steps.{maxCurves, maxClaims, isVersion, versionFault, contentFault, inOrder, full, after, stepAt, takes, refused-at, next-inside}
 use Rattle.book.specs.Reading.{Contents, Read, sound, refused, maxBytes, start, readOn, readFrom, readBook}
 
 -- of every member of a list

@@ -13,10 +13,11 @@ use native.Mathlib.Omega.{arith}
 use lib.ListN.{length, getD}
 use lib.Dec.{leb, ltb}
 use Rattle.minplus.specs.Curve.{Curve, value}
-use Rattle.field.specs.declared.Refusal.{Refusal}
-use Rattle.field.specs.declared.Refusal.the-variants.{NoSuchCurve, TooLarge}
-use Rattle.field.specs.Layout.{curveIn, contentAt}
-use Rattle.field.specs.Refusals.{numberOf}
+use Rattle.content.specs.declared.Refusal.{Refusal}
+use Rattle.content.specs.declared.Refusal.the-variants.{NoSuchCurve, TooLarge}
+use Rattle.content.specs.Layout.{curveIn}
+use Rattle.field.specs.Fields.{contentAt}
+use Rattle.content.specs.Refusals.{numberOf}
 use Rattle.book.specs.declared.Asked.{Asked}
 use Rattle.book.specs.declared.Asked.the-variants as asked
 use Rattle.book.specs.declared.CurveValue.{CurveValue}

@@ -1,6 +1,6 @@
 // A book, read: any bytes are a sound book or a refusal with its place.
+use content::Refusal;
 use curve::Units;
-use field::Refusal;
 use field::State;
 
 pub mod values;

@@ -5,10 +5,10 @@ use crate::Asked;
 use crate::CurveValue;
 use crate::Outcome;
 use crate::whole::read;
+use content::Refusal;
 use curve::Ticks;
 use curve::values::value_at;
-use field::Refusal;
-use field::curves::curve_at;
+use field::places::curve_at;
 
 pub fn value_in(book: &[u8], curve: u64, tick: u64) -> Asked
     ensures { λ r. ⌜ r ≡ valueAsked (now (book .entry)) curve tick ⌝ }

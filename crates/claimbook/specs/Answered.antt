@@ -14,7 +14,8 @@ use mathlib.Core.List.{List, [], _++_}
 use native.Mathlib.Omega.{arith}
 use lib.ListN.{length, replicate, length-replicate}
 use Rattle.minplus.specs.Verdict.{Record, Verdict, accepted, refutedAt, refutedByRate, notLeast, notJudged, recordOf}
-use Rattle.field.specs.Refusals.{maxClaims, numberOf}
+use Rattle.content.specs.Refusals.{numberOf}
+use Rattle.field.specs.Steps.{maxClaims}
 use Rattle.book.specs.Reading.{Contents, sound, readBook}
 use Rattle.book.specs.Sound.{sound-book}
 use Rattle.judge.specs.Answer.{acceptedIn, refutedIn, unjudgedIn, claimsIn, recordSize, recordIn}

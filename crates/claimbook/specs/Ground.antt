@@ -7,8 +7,8 @@ use mathlib.Core.List.{[]}
 use Rattle.minplus.specs.Claim.{kindBy}
 use Rattle.curve.specs.Filled.{listOf}
 use Rattle.numbers.specs.Numbers.{numberAt}
-use Rattle.field.specs.Layout.{tagBy}
-use Rattle.field.specs.Refusals.{numberOf}
+use Rattle.field.specs.Fields.{tagBy}
+use Rattle.content.specs.Refusals.{numberOf}
 use Rattle.book.specs.Ground.{w8}
 use Rattle.judge.specs.Run.{answerOf, bufferOf}
 use Rattle.report.specs.Text.{bytes, decimal}

@@ -1,16 +1,16 @@
 -- The claim of a kind, by document 01's number.
 --
 --     kindOf               a claim's kind: its number is minplus's kindNumber, and stands there alone
---     limitedBy            a claim with an X that may be too large
+--     limitedBy            a claim with an X that may be too large; within: X, where it is not (limited-within)
 --     claimWith            the claim of a kind with an X: it has that kind (kind-with)
 --     namedAs, namedBy     the answer for a kind, if there is one, and an X; for a number and an X
 --     xOf, named-back      of a claim's own number and X it is that claim
 use Prim.Native.Nat.{ℕ, _≤_}
 use mathlib.Core.Path.{_≡_, refl}
-use mathlib.Core.Bool.{true, false}
+use mathlib.Core.Bool.{Bool, true, false}
 use mathlib.Core.Option.{Option, none, some}
-use lib.Dec.{ltb}
-use borrow.Author.Tests.{le-ltb}
+use lib.Dec.{leb, ltb}
+use borrow.Author.Tests.{le-ltb, lt-ltb, leb-false}
 use Rattle.minplus.specs.Claim as M
 use Rattle.curve.specs.declared.Operation.the-variants.{Sum, Minimum, Convolution}
 use Rattle.curve.specs.declared.Deviation.the-variants.{Delay, Backlog}
@@ -28,6 +28,9 @@ kindOf (Exactly x) = M.bound (deviationOf x) M.exactly
 
 unfoldable pub limitedBy : ℕ → Claim → Named
 limitedBy x c = elim (ltb M.maxX x) [ true ↦ XTooLarge | false ↦ named.Claim c ]
+
+unfoldable pub within : ℕ → ℕ
+within x = elim (leb x M.maxX) [ true ↦ x | false ↦ 0 ]
 
 -- the claim of a kind with an X; kinds 1 to 3 have none
 abbrev pub claimWith : M.Kind → ℕ → Claim
@@ -55,6 +58,15 @@ abbrev pub xOf : Claim → ℕ
 xOf (Equals o) = 0
 xOf (AtMost x) = amountOf x
 xOf (Exactly x) = amountOf x
+
+pub limited-within : (F : ℕ → Claim) (x : ℕ) → limitedBy x (F (within x)) ≡ limitedBy x (F x)
+unfolding limitedBy within
+limited-within F x = go (leb x M.maxX) refl
+  where
+    go : (b : Bool) → leb x M.maxX ≡ b
+        → limitedBy x (F (elim b as (λ _. ℕ) [ true ↦ x | false ↦ 0 ])) ≡ limitedBy x (F x)
+    go true near = refl
+    go false far = rw (lt-ltb M.maxX x (leb-false x M.maxX far), limitedBy)
 
 pub kind-with : (κ : M.Kind) (x : ℕ) → kindOf (claimWith κ x) ≡ κ
 kind-with (M.result M.sum) x = refl

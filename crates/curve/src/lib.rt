@@ -1,7 +1,7 @@
 // Curves and claims as values, and what everything above asks of them: a value at a tick, a table of values, which of two is slower.
 ghost use mathlib.Core.Path.{_≡_};
 ghost use Rattle.curve.specs.Held.{padded};
-ghost use Rattle.curve.specs.Kinds.{namedBy, limitedBy};
+ghost use Rattle.curve.specs.Kinds.{namedBy, limitedBy, within};
 
 pub mod rates;
 pub mod values;
@@ -80,12 +80,13 @@ impl Claim {
 
     pub const MAX_HORIZON: usize = 4_096;
 
-    // Kinds 1 to 3 have no X: what is passed for it is not looked at.
-    pub fn new(kind: u8, x: u32) -> Named
+    // Of numbers of any size. Kinds 1 to 3 have no X: what is passed for it is not looked at.
+    pub fn new(kind: u64, x: u64) -> Named
         ensures { λ r. ⌜ r ≡ namedBy kind x ⌝ }
     {
-        let delay = Deviation::Delay(Ticks(x));
-        let backlog = Deviation::Backlog(Units(x as u64));
+        let amount = within(x);
+        let delay = Deviation::Delay(Ticks(amount));
+        let backlog = Deviation::Backlog(Units(amount as u64));
         match kind {
             1 => Named::Claim(Claim::Equals(Operation::Sum)),
             2 => Named::Claim(Claim::Equals(Operation::Minimum)),
@@ -99,10 +100,21 @@ impl Claim {
     }
 }
 
-fn limited(x: u32, claim: Claim) -> Named
+// X where it is within its limit.
+fn within(x: u64) -> u32
+    ensures { λ r. ⌜ r ≡ within x ⌝ }
+{
+    if x <= Claim::MAX_X as u64 {
+        x as u32
+    } else {
+        0
+    }
+}
+
+fn limited(x: u64, claim: Claim) -> Named
     ensures { λ r. ⌜ r ≡ limitedBy x claim ⌝ }
 {
-    if Claim::MAX_X < x {
+    if (Claim::MAX_X as u64) < x {
         Named::XTooLarge
     } else {
         Named::Claim(claim)

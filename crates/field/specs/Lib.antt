@@ -1,7 +1,5 @@
--- One field of a book: document 01's sections 'The book' and 'Refusal numbers', but for the loop over the fields. Layout, Refusals and Steps are the definitions; Sound says what is
--- known of a curve and of a claim that are not refused; Claims is for the code.
-pub mod Layout
-pub mod Refusals
+-- One field of a book: document 01's sections 'The book' and 'Refusal numbers', but for the contents of curves and claims and for the loop over the fields.
+-- Fields has the bytes, read and written, Steps a field's answer; Back: reading and writing undo each other.
+pub mod Fields
 pub mod Steps
-pub mod Sound
-pub mod Claims
+pub mod Back

@@ -2,6 +2,7 @@
 -- order: 1 fewer than 3 bytes are left; 2 unknown tag; 3 field out of its place in the order (a second version too); 4 a 17th curve or 257th claim; 1 again, content runs past the
 -- book; then by tag".
 --
+--     versionFault, endFault, contentFault     a content, by tag
 --     inOrder, full, taggedFault     a field whose tag is known
 --     after            where a reader stands after a field
 --     stepOn, stepAt   a field's answer
@@ -15,10 +16,10 @@ use native.Mathlib.Omega.{arith}
 use lib.ListN.{length, drop, length-drop}
 use lib.Dec.{leb, ltb, eqb}
 use borrow.Author.Tests.{ltb-false, not-false}
-use Rattle.field.specs.declared.Refusal.{Refusal}
-use Rattle.field.specs.declared.Refusal.the-variants.{Torn, UnknownTag, OutOfOrder, TooMany}
-use Rattle.field.specs.declared.Checked.{Checked}
-use Rattle.field.specs.declared.Checked.the-variants.{Sound, Refused}
+use Rattle.content.specs.declared.Refusal.{Refusal}
+use Rattle.content.specs.declared.Refusal.the-variants.{Torn, UnknownTag, OutOfOrder, TooMany, WrongVersion, WrongEnd}
+use Rattle.content.specs.declared.Checked.{Checked}
+use Rattle.content.specs.declared.Checked.the-variants.{Sound, Refused}
 use Rattle.field.specs.declared.Tag.{Tag}
 use Rattle.field.specs.declared.Tag.the-variants as tag
 use Rattle.field.specs.declared.Tagged.{Tagged}
@@ -26,8 +27,41 @@ use Rattle.field.specs.declared.Tagged.the-variants.{Known, Unknown}
 use Rattle.field.specs.declared.State.{State}
 use Rattle.field.specs.declared.Field.{Field}
 use Rattle.field.specs.declared.Field.the-variants as field
-use Rattle.field.specs.Layout.{headLength, tagOf, lengthOf, contentOf, contentAt, versionIn}
-use Rattle.field.specs.Refusals.{on, maxCurves, maxClaims, contentFault, on-sound}
+use Rattle.content.specs.Refusals.{on, curveFault, claimFault, on-sound}
+use Rattle.field.specs.Fields.{headLength, tagOf, lengthOf, contentOf, contentAt, versionIn}
+
+-- "Curves are numbered from 0, at most 16; claims at most 256."
+abbrev pub maxCurves : ℕ
+maxCurves = 16
+
+abbrev pub maxClaims : ℕ
+maxClaims = 256
+
+-- "version, one byte, 1"
+abbrev pub isVersion : ℕ → Bool
+isVersion v = eqb v 1
+
+-- "5 length or number isn't 1"
+unfoldable pub versionFault : List ℕ → Checked
+versionFault content =
+    on (not (eqb (length content) 1)) WrongVersion
+    (on (not (isVersion (versionIn content))) WrongVersion
+    Sound)
+
+-- "13 length isn't 0 or a byte follows"
+unfoldable pub endFault : List ℕ → ℕ → Checked
+endFault content follow =
+    on (not (eqb (length content) 0)) WrongEnd
+    (on (ltb 0 follow) WrongEnd
+    Sound)
+
+-- "then by tag"
+unfoldable pub contentFault : Tag → ℕ → List ℕ → ℕ → Checked
+unfolding versionFault curveFault claimFault endFault
+contentFault tag.Version curves content follow = versionFault content
+contentFault tag.Curve curves content follow = curveFault content
+contentFault tag.Claim curves content follow = claimFault curves content
+contentFault tag.End curves content follow = endFault content follow
 
 -- "Order: version, curves, claims, end", and one version only. The version is 0 before one has come
 unfoldable pub inOrder : Tag → ℕ → ℕ → Bool
@@ -84,8 +118,9 @@ stepAt s st = stepOn st (drop (st .place) s)
 
 -- ---- laws
 
--- what a field that is taken tells: its tag is in order, there is room for it, it is all there, and its content is sound
+-- what a field that is taken tells: its tag, that it is in order, there is room for it, it is all there, and its content is sound
 pub record Takes (s : List ℕ) (st : State) (t : Tag) (next : State) : Type 0 where
+  pub is : tagOf (drop (st .place) s) ≡ Known t
   pub ordered : inOrder t (st .version) (st .claims) ≡ true
   pub room : full t (st .curves) (st .claims) ≡ false
   pub whole : fieldSize (drop (st .place) s) ≤ length (drop (st .place) s)
@@ -120,33 +155,33 @@ module _ (s : List ℕ) (st : State) where
 
   -- a field is refused at its place, or its tests pass and it is taken
   module _ (P : Field → Type 0) (no : (x : Refusal) → P (field.Refused x (st .place)))
-      (yes : (t : Tag) → taggedFault t st rest ≡ Sound → P (field.Taken t (moved t))) where
-    by-fault : (t : Tag) (y : Checked) → taggedFault t st rest ≡ y → P (answer y t st rest)
-    by-fault t (Refused x) fault = no x
-    by-fault t Sound fault = yes t fault
+      (yes : (t : Tag) → tagOf rest ≡ Known t → taggedFault t st rest ≡ Sound → P (field.Taken t (moved t))) where
+    by-fault : (t : Tag) (y : Checked) → tagOf rest ≡ Known t → taggedFault t st rest ≡ y → P (answer y t st rest)
+    by-fault t (Refused x) is fault = no x
+    by-fault t Sound is fault = yes t is fault
 
-    by-tag : (g : Tagged) → P (tagged g st rest)
+    by-tag : (g : Tagged) → tagOf rest ≡ g → P (tagged g st rest)
     unfolding tagged
-    by-tag Unknown = no UnknownTag
-    by-tag (Known t) = by-fault t (taggedFault t st rest) refl
+    by-tag Unknown is = no UnknownTag
+    by-tag (Known t) is = by-fault t (taggedFault t st rest) is refl
 
     by-length : (b : Bool) → P (elim b as (λ _. Field) [ true ↦ field.Refused Torn (st .place) | false ↦ tagged (tagOf rest) st rest ])
     by-length true = no Torn
-    by-length false = by-tag (tagOf rest)
+    by-length false = by-tag (tagOf rest) refl
 
     pub field-cases : P (stepAt s st)
     unfolding stepAt
     field-cases = by-length (ltb (length rest) headLength)
 
-  by-tests : (t : Tag) (next : State) (t′ : Tag) → taggedFault t′ st rest ≡ Sound → field.Taken t′ (moved t′) ≡ field.Taken t next → Takes s st t next
+  by-tests : (t : Tag) (next : State) (t′ : Tag) → tagOf rest ≡ Known t′ → taggedFault t′ st rest ≡ Sound → field.Taken t′ (moved t′) ≡ field.Taken t next → Takes s st t next
   unfolding taggedFault
-  by-tests t next t′ sound same =
+  by-tests t next t′ tagged-so sound same =
       let first = on-sound (not (inOrder t′ (st .version) (st .claims))) OutOfOrder _ sound in
       let second = on-sound (full t′ (st .curves) (st .claims)) TooMany _ (first .1) in
       let third = on-sound (ltb (length rest) (fieldSize rest)) Torn _ (second .1) in
       let is : t′ ≡ t = ap (λ (f : Field). tagIn f t) same in
       subst (λ (t″ : Tag). next ≡ moved t″ → Takes s st t″ next) is
-      (λ to. record { ordered = not-false _ (first .0); room = second .0; whole = ltb-false _ _ (third .0); content = third .1; then = to })
+      (λ to. record { is = tagged-so; ordered = not-false _ (first .0); room = second .0; whole = ltb-false _ _ (third .0); content = third .1; then = to })
       (sym (ap (λ (f : Field). nextIn f next) same) ∙ ap moved is)
 
   pub takes : (t : Tag) (next : State) → stepAt s st ≡ field.Taken t next → Takes s st t next
@@ -158,7 +193,7 @@ module _ (s : List ℕ) (st : State) where
   pub refused-at : (x : Refusal) (p : ℕ) → stepAt s st ≡ field.Refused x p → p ≡ st .place
   refused-at x p =
       field-cases (λ (f : Field). f ≡ field.Refused x p → p ≡ st .place)
-      (λ x′ e. sym (ap (λ (f : Field). placeIn f) e)) (λ t sound e. let z : _≡_ {A = ℕ} 0 1 = cc in absurd (omega (arith, z)))
+      (λ x′ e. sym (ap (λ (f : Field). placeIn f) e)) (λ t is sound e. let z : _≡_ {A = ℕ} 0 1 = cc in absurd (omega (arith, z)))
 
 -- the place of the next field is further on, and inside the book or at its end
 pub next-inside : {s : List ℕ} {st : State} {t : Tag} {next : State} → Takes s st t next → st .place ≤ length s → (st .place < next .place) × (next .place ≤ length s)

@@ -1,68 +1,10 @@
-// One field of a book: what its bytes say, or why it is refused.
+// One field of a book: a step over it, or why it is refused.
 ghost use mathlib.Core.Path.{_≡_};
-ghost use Rattle.field.specs.Refusals.{numberOf};
-use curve::Claim;
+ghost use Rattle.field.specs.Fields.{tagNumber};
+use content::Refusal;
 
-pub mod claims;
-pub mod curves;
+pub mod places;
 pub mod steps;
-
-// Why a book, or a question to it, is refused.
-pub enum Refusal {
-    // fewer than 3 bytes are left, or the content runs past the book
-    Torn,
-    UnknownTag,
-    OutOfOrder,
-    // a 17th curve or a 257th claim
-    TooMany,
-    WrongVersion,
-    CurveLength,
-    // d = 0 or T+d > 256
-    CurvePeriod,
-    TooManyUnits,
-    CurveFalls,
-    // empty, of unknown kind or of the wrong length
-    WrongClaim,
-    NoSuchCurve,
-    // X, or a tick that is asked for
-    TooLarge,
-    // of a length other than 0, or with a byte after it
-    WrongEnd,
-    // too few bytes in a lent buffer
-    NoRoom,
-    BookTooLong,
-}
-
-impl Refusal {
-    // Document 01's number.
-    pub fn number(self) -> u8
-        ensures { λ r. ⌜ r ≡ numberOf self ⌝ }
-    {
-        match self {
-            Refusal::Torn => 1,
-            Refusal::UnknownTag => 2,
-            Refusal::OutOfOrder => 3,
-            Refusal::TooMany => 4,
-            Refusal::WrongVersion => 5,
-            Refusal::CurveLength => 6,
-            Refusal::CurvePeriod => 7,
-            Refusal::TooManyUnits => 8,
-            Refusal::CurveFalls => 9,
-            Refusal::WrongClaim => 10,
-            Refusal::NoSuchCurve => 11,
-            Refusal::TooLarge => 12,
-            Refusal::WrongEnd => 13,
-            Refusal::NoRoom => 14,
-            Refusal::BookTooLong => 15,
-        }
-    }
-}
-
-// What a check of a content finds.
-pub enum Checked {
-    Sound,
-    Refused(Refusal),
-}
 
 // The four fields.
 pub enum Tag {
@@ -70,6 +12,19 @@ pub enum Tag {
     Curve,
     Claim,
     End,
+}
+
+impl Tag {
+    pub fn number(self) -> u8
+        ensures { λ r. ⌜ r ≡ tagNumber self ⌝ }
+    {
+        match self {
+            Tag::Version => 0x10,
+            Tag::Curve => 0x01,
+            Tag::Claim => 0x02,
+            Tag::End => 0x7F,
+        }
+    }
 }
 
 // What a field's first byte says.
@@ -96,18 +51,4 @@ impl State {
 pub enum Field {
     Taken(Tag, State),
     Refused(Refusal, usize),
-}
-
-// A claim's field: what is said, of which curves. Kinds 4 to 7 have no claimed curve, and 0 stands there.
-pub struct Stated {
-    pub claim: Claim,
-    pub left: usize,
-    pub right: usize,
-    pub claimed: usize,
-}
-
-// What a claim's content is.
-pub enum ClaimField {
-    Stated(Stated),
-    Refused(Refusal),
 }

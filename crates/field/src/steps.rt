@@ -2,22 +2,21 @@
 ghost use mathlib.Core.Path.{_≡_};
 ghost use mathlib.Core.Bool.{false};
 ghost use lib.ListN.{drop};
-ghost use Rattle.field.specs.Layout.{tagBy, contentOf, contentAt};
-ghost use Rattle.field.specs.Refusals.{versionFault, endFault, contentFault};
-ghost use Rattle.field.specs.Steps.{inOrder, full, taggedFault, after, stepAt};
-use crate::Checked;
+ghost use Rattle.field.specs.Fields.{tagBy, contentOf, contentAt};
+ghost use Rattle.field.specs.Steps.{versionFault, endFault, contentFault, inOrder, full, taggedFault, after, stepAt};
 use crate::Field;
-use crate::Refusal;
 use crate::State;
 use crate::Tag;
 use crate::Tagged;
-use crate::claims::claim_fault;
-use crate::curves::curve_fault;
+use content::Checked;
+use content::Refusal;
+use content::claims::claim_fault;
+use content::curves::curve_fault;
 use numbers::number1;
 use numbers::number2;
 
 // Tag and length.
-const HEAD: usize = 3;
+pub const HEAD: usize = 3;
 
 fn tag_by(byte: u8) -> Tagged
     ensures { λ r. ⌜ r ≡ tagBy byte ⌝ }
@@ -98,7 +97,7 @@ fn content_fault(tag: Tag, curves: usize, content: &[u8], follow: usize) -> Chec
 }
 
 // Before a version nothing else comes, after it no other; after a claim no curve.
-fn in_order(tag: Tag, version: u8, claims: usize) -> bool
+pub fn in_order(tag: Tag, version: u8, claims: usize) -> bool
     ensures { λ r. ⌜ r ≡ inOrder tag version claims ⌝ }
 {
     match tag {
@@ -115,7 +114,7 @@ fn in_order(tag: Tag, version: u8, claims: usize) -> bool
 }
 
 // No more fields of this tag are taken.
-fn full(tag: Tag, curves: usize, claims: usize) -> bool
+pub fn full(tag: Tag, curves: usize, claims: usize) -> bool
     ensures { λ r. ⌜ r ≡ full tag curves claims ⌝ }
 {
     match tag {

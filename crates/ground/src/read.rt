@@ -93,8 +93,5 @@ pub(crate) fn curve_at(line: &[u8], from: usize) -> Curve {
 }
 
 pub(crate) fn claim(kind: u64, x: u32) -> Named {
-    if 255 < kind {
-        return Named::UnknownKind;
-    }
-    Claim::new(kind as u8, x)
+    Claim::new(kind, x as u64)
 }

@@ -11,8 +11,11 @@ use Prim.Native.Nat.{ℕ, _≤_, _<_}
 use mathlib.Core.Path.{_≡_, refl, sym, ap, subst, _∙_}
 use mathlib.Core.List.{List}
 use mathlib.Core.Option.{Option, none, some}
+use mathlib.Core.Bool.{Bool, true, false}
 use native.Mathlib.Omega.{arith}
 use lib.ListN.{length, getD}
+use lib.Dec.{eqb}
+use borrow.Author.Tests.{eqb-true, eqb-false}
 use Rattle.minplus.specs.Curve.{Curve, WellFormed}
 use Rattle.minplus.specs.Claim as M
 use Rattle.minplus.specs.Verdict.{Verdict, notJudged, verdict}
@@ -21,14 +24,17 @@ use Rattle.curve.specs.Claimed.{claimOver}
 use Rattle.curve.specs.Kinds.{xOf}
 use Rattle.curve.specs.declared.Claim.{Claim}
 use Rattle.curve.specs.declared.Claim.the-variants.{Equals, AtMost, Exactly}
-use Rattle.field.specs.declared.Stated.{Stated}
-use Rattle.field.specs.declared.Checked.{Checked}
-use Rattle.field.specs.declared.Checked.the-variants as checked
-use Rattle.field.specs.declared.ClaimField.{ClaimField}
-use Rattle.field.specs.declared.ClaimField.the-variants as claim-field
-use Rattle.field.specs.Layout.{curveIn, contentAt, kindIn}
-use Rattle.field.specs.Refusals.{maxCurves, kindFault, statedIn, statedOr, stated, claimField}
-use Rattle.field.specs.Sound.{Stands, claim-stands, curve-well-formed}
+use Rattle.content.specs.declared.Stated.{Stated}
+use Rattle.content.specs.declared.Refusal.the-variants.{WrongClaim}
+use Rattle.content.specs.declared.Checked.{Checked}
+use Rattle.content.specs.declared.Checked.the-variants as checked
+use Rattle.content.specs.declared.ClaimField.{ClaimField}
+use Rattle.content.specs.declared.ClaimField.the-variants as claim-field
+use Rattle.content.specs.Layout.{curveIn, kindIn, claimIn, claimLength}
+use Rattle.field.specs.Fields.{contentAt}
+use Rattle.content.specs.Refusals.{kindFault, statedOf, statedOr, stated, statementField, claimField, claim-odd, claim-whole}
+use Rattle.field.specs.Steps.{maxCurves}
+use Rattle.content.specs.Sound.{Stands, claim-stands, curve-well-formed}
 use Rattle.book.specs.Reading.{Contents}
 use Rattle.book.specs.Sound.{SoundBook}
 
@@ -58,21 +64,29 @@ pub record StandsOver (s places : List ℕ) (curves p : ℕ) : Type 0 where
 
 -- what a field states is what its bytes say of its kind
 pub stated-kind : (curves : ℕ) (content : List ℕ) (st : Stated) → claimField curves content ≡ claim-field.Stated st
-    → (κ : M.Kind) × (kindIn content ≡ some κ) × (st ≡ statedIn κ content)
-unfolding claimField
-stated-kind curves content st e = go (kindIn content) refl e
+    → (κ : M.Kind) × (kindIn content ≡ some κ) × (st ≡ statedOf κ (claimIn content))
+unfolding statementField
+stated-kind curves content st e = by-length (eqb (length content) (claimLength (claimIn content .kind))) refl
   where
-    statedOf : ClaimField → Stated
-    statedOf (claim-field.Stated x) = x
-    statedOf (claim-field.Refused x) = st
+    statedIn : ClaimField → Stated
+    statedIn (claim-field.Stated x) = x
+    statedIn (claim-field.Refused x) = st
 
-    sound : (κ : M.Kind) (y : Checked) → statedOr y (statedIn κ content) ≡ claim-field.Stated st → st ≡ statedIn κ content
+    sound : (κ : M.Kind) (y : Checked) → statedOr y (statedOf κ (claimIn content)) ≡ claim-field.Stated st → st ≡ statedOf κ (claimIn content)
     sound κ (checked.Refused x) e = let z : _≡_ {A = ℕ} 0 1 = cc in absurd (omega (arith, z))
-    sound κ checked.Sound e = sym (ap statedOf e)
+    sound κ checked.Sound e = sym (ap statedIn e)
 
-    go : (κ : Option M.Kind) → kindIn content ≡ κ → stated κ curves content ≡ claim-field.Stated st → (κ : M.Kind) × (kindIn content ≡ some κ) × (st ≡ statedIn κ content)
-    go none is e = let z : _≡_ {A = ℕ} 0 1 = cc in absurd (omega (arith, z))
-    go (some κ) is e = (κ, is, sound κ (kindFault κ curves content) e)
+    by-kind : (κ : Option M.Kind) → kindIn content ≡ κ → stated κ curves (claimIn content) ≡ claim-field.Stated st
+        → (κ : M.Kind) × (kindIn content ≡ some κ) × (st ≡ statedOf κ (claimIn content))
+    by-kind none is e = let z : _≡_ {A = ℕ} 0 1 = cc in absurd (omega (arith, z))
+    by-kind (some κ) is e = (κ, is, sound κ (kindFault κ curves (claimIn content)) e)
+
+    refused-not : claim-field.Refused WrongClaim ≡ claim-field.Stated st → ⊥
+    refused-not e = let z : _≡_ {A = ℕ} 0 1 = cc in omega (arith, z)
+
+    by-length : (b : Bool) → eqb (length content) (claimLength (claimIn content .kind)) ≡ b → (κ : M.Kind) × (kindIn content ≡ some κ) × (st ≡ statedOf κ (claimIn content))
+    by-length true whole = by-kind (kindIn content) refl (sym (claim-whole curves content (eqb-true _ _ whole)) ∙ e)
+    by-length false odd = absurd (refused-not (sym (claim-odd curves content (eqb-false _ _ odd)) ∙ e))
 
 pub stands-over : (s : List ℕ) (c : Contents) → SoundBook s c → (k : ℕ) → k < length (c .claims)
     → StandsOver s (c .curves) (length (c .curves)) (getD (c .claims) k 0)

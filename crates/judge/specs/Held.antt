@@ -24,12 +24,13 @@ use Rattle.verdict.specs.declared.Judged.{Judged}
 use Rattle.verdict.specs.Given.{judgedOf, judgement}
 use Rattle.verdict.specs.Means.{is-verdict}
 use Rattle.numbers.specs.Put.{put, put-nothing, length-put}
-use Rattle.field.specs.declared.Stated.{Stated}
-use Rattle.field.specs.declared.ClaimField.{ClaimField}
-use Rattle.field.specs.declared.ClaimField.the-variants as claim-field
-use Rattle.field.specs.Layout.{contentAt}
-use Rattle.field.specs.Refusals.{maxCurves, maxClaims, claimField}
-use Rattle.field.specs.Sound.{Stands}
+use Rattle.content.specs.declared.Stated.{Stated}
+use Rattle.content.specs.declared.ClaimField.{ClaimField}
+use Rattle.content.specs.declared.ClaimField.the-variants as claim-field
+use Rattle.field.specs.Fields.{contentAt}
+use Rattle.content.specs.Refusals.{claimField}
+use Rattle.field.specs.Steps.{maxCurves, maxClaims}
+use Rattle.content.specs.Sound.{Stands}
 use Rattle.book.specs.declared.Places.{Places}
 use Rattle.book.specs.declared.Book.{Book}
 use Rattle.book.specs.Reading.{Contents, sound, readBook}

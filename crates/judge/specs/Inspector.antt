@@ -29,11 +29,13 @@ use Rattle.minplus.specs.Verdict.{Record, Verdict, accepted, refutedAt, refuted
 use Rattle.minplus.specs.Meaning.{Meaning, Rule, Loose, well-formed-proper}
 use Rattle.minplus.specs.Exact.{verdict-exact, accepted-exactly}
 use Rattle.curve.specs.Filled.{listOf}
-use Rattle.field.specs.declared.Refusal.{Refusal}
-use Rattle.field.specs.declared.Refusal.the-variants.{Torn, UnknownTag, OutOfOrder, TooMany, WrongVersion, CurveLength, CurvePeriod, TooManyUnits, CurveFalls, WrongClaim, NoSuchCurve, TooLarge, WrongEnd, NoRoom, BookTooLong}
-use Rattle.field.specs.declared.Stated.{Stated}
-use Rattle.field.specs.Layout.{tagBy, contentAt, kindIn, idIn}
-use Rattle.field.specs.Refusals.{maxClaims, numberOf, statedIn}
+use Rattle.content.specs.declared.Refusal.{Refusal}
+use Rattle.content.specs.declared.Refusal.the-variants.{Torn, UnknownTag, OutOfOrder, TooMany, WrongVersion, CurveLength, CurvePeriod, TooManyUnits, CurveFalls, WrongClaim, NoSuchCurve, TooLarge, WrongEnd, NoRoom, BookTooLong}
+use Rattle.content.specs.declared.Stated.{Stated}
+use Rattle.content.specs.Layout.{kindIn, idIn, claimIn, third-id}
+use Rattle.field.specs.Fields.{tagBy, contentAt}
+use Rattle.content.specs.Refusals.{numberOf, statedOf}
+use Rattle.field.specs.Steps.{maxClaims}
 use Rattle.book.specs.Reading.{Contents, Read, sound, refused, maxBytes, readBook}
 use Rattle.book.specs.Ground.{w8}
 use Rattle.book.specs.Sound.{sound-book, refused-inside}
@@ -69,7 +71,7 @@ claimContent s c k = contentAt s (getD (c .claims) k 0)
 
 abbrev pub IsClaim : List ℕ → Contents → ℕ → Claim → Type 0
 IsClaim s c k claim =
-    (κ : Kind) × (kindIn (claimContent s c k) ≡ some κ) × (claim ≡ claimOn s (c .curves) (statedIn κ (claimContent s c k)))
+    (κ : Kind) × (kindIn (claimContent s c k) ≡ some κ) × (claim ≡ claimOn s (c .curves) (statedOf κ (claimIn (claimContent s c k))))
 
 -- the curve that the n-th byte of a claim's content names: 1 the left, 2 the right, 3 the claimed one
 abbrev pub claimCurve : List ℕ → Contents → ℕ → ℕ → Curve
@@ -233,7 +235,7 @@ module _ (s b : List ℕ) (c : Contents) (so : readBook s ≡ sound c) (room : R
         subst Fits is (record-fits claim well),
       )
     where
-      said : {st : Stated} → (κ : Kind) × (kindIn (claimContent s c k) ≡ some κ) × (st ≡ statedIn κ (claimContent s c k)) → IsClaim s c k (claimOn s (c .curves) st)
+      said : {st : Stated} → (κ : Kind) × (kindIn (claimContent s c k) ≡ some κ) × (st ≡ statedOf κ (claimIn (claimContent s c k))) → IsClaim s c k (claimOn s (c .curves) st)
       said (κ, kind, e) = (κ, kind, ap (claimOn s (c .curves)) e)
 
   -- what is read from the buffer again
@@ -300,7 +302,9 @@ accepted-convolution {s} {c} {k} {r} judged kind code n =
     let g : Curve = claimCurve s c k 2 in
     let h : Curve = claimCurve s c k 3 in
     let is : judged .is-claim .0 ≡ result convolution = ap (kindOr (result convolution)) (sym (judged .is-claim .1) ∙ kind) in
-    let claim : judged .claim ≡ equals convolution f g h = judged .is-claim .2 ∙ ap (λ (κ : Kind). claimOn s (c .curves) (statedIn κ (claimContent s c k))) is in
+    let claim : judged .claim ≡ equals convolution f g h =
+    judged .is-claim .2 ∙ ap (λ (κ : Kind). claimOn s (c .curves) (statedOf κ (claimIn (claimContent s c k)))) is
+    ∙ ap (λ (n : ℕ). equals convolution f g (curveNamed s (c .curves) n)) (third-id (claimContent s c k) convolution kind) in
     let says : Says (equals convolution f g h) r = subst (λ (x : Claim). Says x r) claim (judged .says) in
     let equal : value h n ≡ conv (value f) (value g) n = says .code-1 .0 code .1 n in
     let least = conv-attained (value f) (value g) n in

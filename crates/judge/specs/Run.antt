@@ -16,9 +16,9 @@ use lib.Dec.{ltb}
 use borrow.Author.Tests.{lt-ltb, le-ltb}
 use Rattle.minplus.specs.Verdict.{Record, Verdict, recordOf}
 use Rattle.numbers.specs.Put.{put}
-use Rattle.field.specs.declared.Refusal.{Refusal}
-use Rattle.field.specs.declared.Refusal.the-variants.{NoRoom}
-use Rattle.field.specs.Refusals.{numberOf}
+use Rattle.content.specs.declared.Refusal.{Refusal}
+use Rattle.content.specs.declared.Refusal.the-variants.{NoRoom}
+use Rattle.content.specs.Refusals.{numberOf}
 use Rattle.book.specs.Reading.{Contents, Read, sound, refused, readBook}
 use Rattle.judge.specs.declared.Totals.{Totals}
 use Rattle.judge.specs.Claims.{verdictIn}

@@ -17,7 +17,7 @@ use native.Mathlib.Nat.{eq-or-lt-of-le, le-of-suc-le-suc}
 use native.Mathlib.Numerals.{add-one}
 use lib.Dec.{eqb}
 use Rattle.minplus.specs.Verdict.{Verdict, accepted, refutedAt, refutedByRate, notLeast, notJudged, recordOf}
-use Rattle.field.specs.Refusals.{maxClaims}
+use Rattle.field.specs.Steps.{maxClaims}
 use Rattle.judge.specs.declared.Totals.{Totals}
 use Rattle.judge.specs.Answer.{answerWith}
 

@@ -5,7 +5,7 @@ ghost use Rattle.book.specs.Reading.{maxBytes};
 ghost use Rattle.judge.specs.Run.{refusedWord};
 ghost use Rattle.judge.specs.Totals.{totalsWord, Countable, counted};
 use crate::Totals;
-use field::Refusal;
+use content::Refusal;
 
 pub(crate) fn refused(refusal: Refusal, place: usize) -> u64
     requires { ⌜ place ≤ maxBytes ⌝ }

@@ -1,12 +1,9 @@
 // The run over a book: a verdict on each claim, written as records into lent bytes, and the refusal or the totals as one number.
 ghost use mathlib.Core.Path.{_≡_};
-ghost use Rattle.book.specs.Values.{valueAsked, told};
 ghost use Rattle.judge.specs.Run.{answerOf, bufferOf};
-use book::CurveValue;
 use book::Outcome;
-use book::values;
 use book::whole::read;
-use field::Refusal;
+use content::Refusal;
 
 mod answers;
 mod claims;
@@ -28,10 +25,9 @@ impl Totals {
     pub const RECORD: usize = 21;
 }
 
-// For C. The answer is the refusal's number + 2^8 * its place, or else 2^24 * accepted + 2^36 * refuted + 2^48 * not judged. A refused book leaves the buffer as it was; of a
+// The answer is the refusal's number + 2^8 * its place, or else 2^24 * accepted + 2^36 * refuted + 2^48 * not judged. A refused book leaves the buffer as it was; of a
 // sound one the records stand at the front, in the order of the claims.
-#[no_mangle]
-pub extern "C" fn judge(book: &[u8], verdicts: &mut [u8]) -> u64
+pub fn judge(book: &[u8], verdicts: &mut [u8]) -> u64
     ensures { λ r. ⌜ r ≡ answerOf (now (book .entry)) (now (verdicts .entry)) ⌝ }
     ensures { λ _. ⌜ now (verdicts .exit) ≡ bufferOf (now (book .entry)) (now (verdicts .entry)) ⌝ }
 {
@@ -46,12 +42,4 @@ pub extern "C" fn judge(book: &[u8], verdicts: &mut [u8]) -> u64
         return refused(Refusal::NoRoom, 0);
     }
     totals_word(run(book, sound, verdicts))
-}
-
-// For C: a curve's value at a tick, asked of a book.
-#[no_mangle]
-pub extern "C" fn curve_value(book: &[u8], curve: u64, tick: u64) -> CurveValue
-    ensures { λ r. ⌜ r ≡ told (valueAsked (now (book .entry)) curve tick) ⌝ }
-{
-    values::curve_value(book, curve, tick)
 }

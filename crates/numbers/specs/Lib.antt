@@ -1,3 +1,5 @@
--- Numbers in bytes, high byte first: read from a place of a list, and written over one.
+-- Numbers in bytes, high byte first: read from a place of a list (Numbers), and written over one (Put), one after the other (Written); Back: reading and writing undo each other.
 pub mod Numbers
 pub mod Put
+pub mod Written
+pub mod Back

@@ -3,14 +3,14 @@ use book::Book;
 use book::Outcome;
 use book::values::curve_value;
 use book::whole::read;
+use content::ClaimField;
+use content::Refusal;
+use content::Stated;
 use curve::Claim;
 use curve::Deviation;
 use curve::Operation;
-use field::ClaimField;
-use field::Refusal;
 use field::State;
-use field::Stated;
-use field::claims::claim_at;
+use field::places::claim_at;
 
 // One byte more than a book may have: of a longer one no more is read, and it is refused for its length all the same.
 const ROOM: usize = Book::MAX_BYTES + 1;

@@ -5,7 +5,7 @@ ghost use lib.ListN.{length};
 ghost use Rattle.io.specs.Counts.{Counts};
 ghost use Rattle.numbers.specs.Put.{put};
 ghost use Rattle.report.specs.Lines.{maxLine, maxWords, TotalsFit, refutedAt, wordsIn, claimLine, claimLines, totalLine, certifiedLine, refusedLine, reportIn};
-ghost use Rattle.report.specs.Written.{Wrote};
+ghost use Rattle.numbers.specs.Written.{Wrote};
 use judge::Totals;
 use numbers::number1;
 use numbers::number4;

@@ -4,7 +4,7 @@ use mathlib.Core.List.{List}
 use native.Mathlib.Omega.{arith}
 use lib.ListN.{length}
 use denote.Ref.{now}
-use Rattle.field.specs.Refusals.{maxClaims}
+use Rattle.field.specs.Steps.{maxClaims}
 use Rattle.book.specs.declared.Book.{Book}
 use Rattle.book.specs.declared.Reading.{Reading}
 use Rattle.book.specs.Reading.{Contents, sound, refused, readBook}

@@ -2,7 +2,7 @@ use Prim.Native.Nat.{_-_, _*_, _≤_}
 use mathlib.Core.Path.{_≡_}
 use native.Mathlib.Omega.{arith}
 use native.Mathlib.Numerals.{add-one}
-use Rattle.report.specs.Written.{Wrote, wrote-nothing, wrote-on, wrote-length}
+use Rattle.numbers.specs.Written.{Wrote, wrote-nothing, wrote-on, wrote-length}
 use Rattle.report.specs.Lines.{maxLine, claimLines}
 use Rattle.report.proofs.claim_lines.Statement.{statement}
 use Rattle.report.proofs.claim_lines.Tie as tie

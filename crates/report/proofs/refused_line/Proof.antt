@@ -1,7 +1,7 @@
 use native.Mathlib.Omega.{arith}
 use borrow.Author.Needs.{needs}
 use Rattle.report.specs.Text.{decimal-short}
-use Rattle.report.specs.Written.{wrote-on}
+use Rattle.numbers.specs.Written.{wrote-on}
 use Rattle.report.specs.Lines.{refusedLine}
 use Rattle.report.proofs.refused_line.Statement.{statement}
 use Rattle.report.proofs.refused_line.Tie as tie

@@ -3,7 +3,7 @@ use native.Mathlib.Omega.{arith}
 use lib.ListN.{length-append}
 use borrow.Author.Needs.{needs}
 use Rattle.report.specs.Text.{decimal}
-use Rattle.report.specs.Written.{wrote-on}
+use Rattle.numbers.specs.Written.{wrote-on}
 use Rattle.report.specs.Lines.{refutedAt, refuted-short}
 use Rattle.report.proofs.refuted_at.Statement.{statement}
 use Rattle.report.proofs.refuted_at.Tie as tie

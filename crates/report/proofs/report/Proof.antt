@@ -2,7 +2,8 @@ use native.Mathlib.Omega.{arith}
 use lib.ListN.{length}
 use denote.Ref.{now}
 use borrow.Author.Needs.{needs}
-use Rattle.report.specs.Written.{wrote-nothing, wrote-first, wrote-on}
+use Rattle.numbers.specs.Written.{wrote-nothing, wrote-on}
+use Rattle.report.specs.Written.{wrote-first}
 use Rattle.report.specs.Lines.{report-short, report-refused, report-judged}
 use Rattle.report.proofs.report.Statement.{statement}
 use Rattle.report.proofs.report.Tie as tie

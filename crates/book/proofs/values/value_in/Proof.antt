@@ -9,8 +9,9 @@ use Rattle.minplus.specs.Curve.{Curve, value}
 use Rattle.curve.specs.Filled.{array-at}
 use Rattle.curve.specs.Held as held-curves
 use Rattle.curve.specs.declared.Curve as held-curve
-use Rattle.field.specs.Sound.{curve-well-formed}
-use Rattle.field.specs.Layout.{contentAt, curveIn}
+use Rattle.content.specs.Sound.{curve-well-formed}
+use Rattle.content.specs.Layout.{curveIn}
+use Rattle.field.specs.Fields.{contentAt}
 use Rattle.book.specs.Held.{readingOf, outcome-refused, outcome-sound}
 use Rattle.book.specs.Sound.{sound-book}
 use Rattle.book.specs.Values.{maxTick, askedOf, valueAsked}

@@ -1,8 +1,7 @@
 use Prim.Native.Nat.{_<_}
 use native.Mathlib.Omega.{arith}
 use borrow.Author.Tests.{leb-false}
-use Rattle.field.specs.Refusals.{maxCurves, maxClaims}
-use Rattle.field.specs.Steps.{full}
+use Rattle.field.specs.Steps.{maxCurves, maxClaims, full}
 use Rattle.book.specs.Held.{noted}
 use Rattle.book.proofs.whole.noted.Statement.{statement}
 use Rattle.book.proofs.whole.noted.Tie as tie

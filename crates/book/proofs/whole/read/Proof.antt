@@ -7,7 +7,7 @@ use denote.Ref.{now}
 use denote.Enum.Declared.{tagOf}
 use types.Run.{OneOf, miss}
 use borrow.Author.Tests.{lt-ltb}
-use Rattle.field.specs.declared.Refusal.the-variants.{BookTooLong}
+use Rattle.content.specs.declared.Refusal.the-variants.{BookTooLong}
 use Rattle.field.specs.declared.Field.the-variants.{Taken}
 use Rattle.field.specs.declared.Tag.the-variants.{End}
 use Rattle.field.specs.declared.Tag.{Tag}

@@ -1,4 +1,4 @@
-use Rattle.field.specs.Refusals.{contentFault}
+use Rattle.field.specs.Steps.{contentFault}
 use Rattle.field.proofs.steps.content_fault.Statement.{statement}
 use Rattle.field.proofs.steps.content_fault.Tie as tie
 use borrow.Author.Needs.{needs}

@@ -4,7 +4,7 @@ use mathlib.Core.Path.{sym, subst, _∙_}
 use native.Mathlib.Omega.{arith}
 use lib.ListN.{length}
 use lib.Seq.{take-all, length-take-le}
-use Rattle.field.specs.Layout.{lengthOf}
+use Rattle.field.specs.Fields.{lengthOf}
 use Rattle.field.proofs.steps.content_of.Statement.{statement}
 use Rattle.field.proofs.steps.content_of.Tie as tie
 use borrow.Author.Needs.{needs}

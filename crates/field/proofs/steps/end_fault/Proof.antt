@@ -2,7 +2,7 @@ use native.Mathlib.Omega.{arith}
 use lib.ListN.{length}
 use denote.Ref.{now}
 use borrow.Author.Tests.{lt-ltb, le-ltb, eq-eqb, ne-eqb}
-use Rattle.field.specs.Refusals.{endFault}
+use Rattle.field.specs.Steps.{endFault}
 use Rattle.field.proofs.steps.end_fault.Statement.{statement}
 use Rattle.field.proofs.steps.end_fault.Tie as tie
 

@@ -8,8 +8,8 @@ use borrow.Author.Tests.{lt-ltb, le-ltb}
 use Rattle.field.specs.declared.Field.the-variants.{Taken}
 use Rattle.field.specs.declared.Tagged.{Tagged}
 use Rattle.field.specs.Steps.{fieldSize, taggedFault, after, answer, tagged, stepOn, stepAt, Takes, takes}
-use Rattle.field.specs.Layout.{tagOf, lengthOf, contentOf, versionIn}
-use Rattle.field.specs.declared.Checked.{Checked}
+use Rattle.field.specs.Fields.{tagOf, lengthOf, contentOf, versionIn}
+use Rattle.content.specs.declared.Checked.{Checked}
 use Rattle.field.specs.declared.State.{State}
 use Rattle.field.specs.declared.Tag.{Tag}
 use Rattle.field.proofs.steps.step.Statement.{statement}

@@ -1,6 +1,6 @@
 use mathlib.Core.Path.{_≡_, sym, ap}
 use Rattle.minplus.specs.Search.{numbered-none}
-use Rattle.field.specs.Layout.{tagNumber, tags, known, tagBy}
+use Rattle.field.specs.Fields.{tagNumber, tags, known, tagBy}
 use Rattle.field.specs.declared.Tag.the-variants.{Version, Curve, Claim, End}
 use Rattle.field.specs.declared.Tag.{Tag}
 use Rattle.field.proofs.steps.tag_by.Statement.{statement}

@@ -2,8 +2,8 @@ use native.Mathlib.Omega.{arith}
 use lib.ListN.{length}
 use denote.Ref.{now}
 use borrow.Author.Tests.{eq-eqb, ne-eqb}
-use Rattle.field.specs.Layout.{versionIn}
-use Rattle.field.specs.Refusals.{versionFault}
+use Rattle.field.specs.Fields.{versionIn}
+use Rattle.field.specs.Steps.{versionFault}
 use Rattle.field.proofs.steps.version_fault.Statement.{statement}
 use Rattle.field.proofs.steps.version_fault.Tie as tie
 use borrow.Author.Needs.{needs}

@@ -5,10 +5,10 @@ use denote.Ref.{now}
 use Rattle.minplus.specs.Claim.{WellFormedClaim}
 use Rattle.minplus.specs.Verdict.{recordOf, verdict}
 use Rattle.curve.specs.Claimed.{claimOf}
-use Rattle.field.specs.declared.Stated.{Stated}
-use Rattle.field.specs.declared.ClaimField.the-variants as claim-field
-use Rattle.field.specs.Layout.{contentAt}
-use Rattle.field.specs.Refusals.{claimField}
+use Rattle.content.specs.declared.Stated.{Stated}
+use Rattle.content.specs.declared.ClaimField.the-variants as claim-field
+use Rattle.field.specs.Fields.{contentAt}
+use Rattle.content.specs.Refusals.{claimField}
 use Rattle.judge.specs.Claims.{claimOn, verdictFor, verdictIn}
 use Rattle.judge.specs.Held.{Told, told, claim-held}
 use borrow.Author.Needs.{needs}

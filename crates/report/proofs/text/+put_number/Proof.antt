@@ -5,7 +5,7 @@ use borrow.Author.Needs.{needs}
 use borrow.Fn.Kinds.{In}
 use borrow.Fn.PlainCycle.{Measures, is, falls, and}
 use Rattle.report.specs.Text.{decimal-digit, decimal-more, decimal-some, length-more, tenth-less}
-use Rattle.report.specs.Written.{wrote-on, wrote-length}
+use Rattle.numbers.specs.Written.{wrote-on, wrote-length}
 use Rattle.report.proofs.text.put_number.Reads as put-number
 use Rattle.report.proofs.text.put_number.Kinds as put-number-kinds
 use Rattle.report.proofs.text.+put_number.Lts-put_number as put-number-lts

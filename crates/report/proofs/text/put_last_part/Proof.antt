@@ -3,7 +3,7 @@ use lib.ListN.{length-append}
 use denote.Ref.{now}
 use borrow.Author.Needs.{needs}
 use Rattle.report.specs.Text.{decimal}
-use Rattle.report.specs.Written.{wrote-on}
+use Rattle.numbers.specs.Written.{wrote-on}
 use Rattle.report.proofs.text.put_last_part.Statement.{statement}
 use Rattle.report.proofs.text.put_last_part.Tie as tie
 

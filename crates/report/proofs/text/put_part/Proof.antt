@@ -1,6 +1,6 @@
 use native.Mathlib.Omega.{arith}
 use borrow.Author.Needs.{needs}
-use Rattle.report.specs.Written.{wrote-on}
+use Rattle.numbers.specs.Written.{wrote-on}
 use Rattle.report.proofs.text.put_part.Statement.{statement}
 use Rattle.report.proofs.text.put_part.Tie as tie
 

@@ -4,7 +4,7 @@ use native.Mathlib.Numerals.{add-one}
 use lib.ListN.{length, take}
 use lib.Seq.{length-take-le, take-suc, take-all}
 use denote.Ref.{now}
-use Rattle.report.specs.Written.{Wrote, wrote-nothing, wrote-on, wrote-length}
+use Rattle.numbers.specs.Written.{Wrote, wrote-nothing, wrote-on, wrote-length}
 use Rattle.report.proofs.text.put_words.Statement.{statement}
 use Rattle.report.proofs.text.put_words.Tie as tie
 

@@ -1,0 +1,145 @@
+use Prim.Native.Nat.{ℕ, _+_, _*_, _≤_}
+use mathlib.Core.List.{List}
+use mathlib.Core.Bool.{false}
+use mathlib.Core.Path.{_≡_, sym, ap, ap₂, _∙_}
+use native.Mathlib.Omega.{arith}
+use native.Mathlib.Nat.{min-eq-left}
+use lib.ListN.{length, take}
+use lib.Dec.{ltb}
+use denote.Ref.{now}
+use borrow.Author.Tests.{eq-eqb, ne-eqb, lt-ltb, le-ltb}
+use Rattle.minplus.specs.Curve.{maxListed}
+use Rattle.curve.specs.declared.Curve.{Curve}
+use Rattle.curve.specs.Filled.{listOf, filled, length-listOf, filled-length, filled-taken}
+use Rattle.curve.specs.Held.{padded-listed}
+use Rattle.content.specs.Layout.{rankIn, periodIn, countIn, valueIn, curveHead}
+use Rattle.content.specs.Sound.{span-fits}
+use Rattle.content.specs.Refusals.{noSpan, limitFault, curveFault}
+use borrow.Author.Needs.{needs}
+use Rattle.content.proofs.curves.curve_fault.Statement.{statement}
+use Rattle.content.proofs.curves.curve_fault.Tie as tie
+
+abbrev content : tie.Else1 → List ℕ
+content c = now (c .before .before .args .content)
+
+long : (c : tie.Else1) → ltb (length (content c)) curveHead ≡ false
+long c = le-ltb (length (content c)) curveHead (c .if1 .left)
+
+spans : (c : tie.After-no-span) → c .no-span .result ≡ noSpan (rankIn (content (c .before .before .before))) (periodIn (content (c .before .before .before)))
+spans c = rw (← (c .before .before .number2 .ensures .0), ← (c .before .number22 .ensures .0)) (c .no-span .ensures)
+
+count : (c : tie.Else2) → c .before .before .before .number2 .result + c .before .before .number22 .result ≡ countIn (content (c .before .before .before .before))
+count c = rw (c .before .before .before .number2 .ensures .0, c .before .before .number22 .ensures .0)
+
+fits : (c : tie.Else2) → countIn (content (c .before .before .before .before)) ≤ maxListed
+fits c = let bytes = content (c .before .before .before .before) in span-fits (rankIn bytes) (periodIn bytes) (sym (spans (c .before)) ∙ c .if2 .left) .1
+
+-- the working array has the values of the content, and what is taken of it is those
+array : (c : tie.After-curve-in) → c .curve-in .result .listed
+    ≡ filled (valueIn (content (c .before .before .before .before .before .before))) maxListed (countIn (content (c .before .before .before .before .before .before)))
+array c =
+    let bytes = content (c .before .before .before .before .before .before) in
+    ap (λ (f : Curve). f .listed) (c .curve-in .ensures) ∙ padded-listed (valueIn bytes) (countIn bytes)
+    ∙ ap (filled (valueIn bytes) maxListed) (min-eq-left (fits (c .before .before)))
+
+taken : (c : tie.After-curve-in) → take (c .before .before .before .before .before .number2 .result + c .before .before .before .before .number22 .result) (c .curve-in .result .listed)
+    ≡ listOf (valueIn (content (c .before .before .before .before .before .before))) (countIn (content (c .before .before .before .before .before .before)))
+taken c =
+    let bytes = content (c .before .before .before .before .before .before) in
+    ap₂ take (count (c .before .before)) (array c) ∙ filled-taken (valueIn bytes) maxListed (countIn bytes)
+
+returns : tie.Need-returns
+unfolding curveFault
+returns c = rw (lt-ltb (length (now (c .before .before .args .content))) curveHead (c .if1 .taken))
+
+number2-requires : tie.Need-number2-requires
+number2-requires c κs = search needs
+
+number2-requires-2 : tie.Need-number2-requires-2
+number2-requires-2 c κs = search needs
+
+cast-no-span : tie.Need-cast-no-span
+cast-no-span c = search needs
+
+cast-no-span-2 : tie.Need-cast-no-span-2
+cast-no-span-2 c = search needs
+
+no-span-requires : tie.Need-no-span-requires
+no-span-requires c κs = search needs
+
+returns-2 : tie.Need-returns-2
+unfolding curveFault
+returns-2 c = rw (long (c .before .before .before .before), sym (spans (c .before)) ∙ c .if2 .taken)
+
+add-count : tie.Need-add-count
+add-count c = search needs
+
+cast-count : tie.Need-cast-count
+cast-count c = search needs
+
+mul-if3 : tie.Need-mul-if3
+mul-if3 c = search needs
+
+add-if3 : tie.Need-add-if3
+add-if3 c = search needs
+
+returns-3 : tie.Need-returns-3
+unfolding curveFault
+returns-3 c =
+    let spanning = c .before in
+    let bytes = content (spanning .before .before .before .before) in
+    rw (long (spanning .before .before .before .before), sym (spans (spanning .before)) ∙ spanning .if2 .left, ne-eqb (length bytes) (curveHead + 4 * countIn bytes) (λ e. omega (arith, e, count spanning, c .if3 .taken)))
+
+curve-in-requires : tie.Need-curve-in-requires
+curve-in-requires c κs = search needs
+
+cast-limit-fault : tie.Need-cast-limit-fault
+cast-limit-fault c = search needs
+
+array-share-prefix-listed : tie.Need-array-share-prefix-listed
+array-share-prefix-listed c =
+    let at = c .before .before in
+    let bytes = content (at .before .before .before .before .before .before) in
+    rw (array at, filled-length (valueIn bytes) maxListed (countIn bytes) (fits (at .before .before)), count (at .before .before)) (fits (at .before .before))
+
+slice-aggregate-limit-fault : tie.Need-slice-aggregate-limit-fault
+slice-aggregate-limit-fault c =
+    let at = c .before .before .before in
+    let bytes = content (at .before .before .before .before .before .before) in
+    count (at .before .before) ∙ sym (ap length (taken at) ∙ length-listOf (valueIn bytes) (countIn bytes))
+
+limit-fault-requires : tie.Need-limit-fault-requires
+limit-fault-requires c κs = search needs
+
+returns-4 : tie.Need-returns-4
+unfolding curveFault
+returns-4 c =
+    let at = c .before .before .before .before in
+    let sized = at .before in
+    let spanning = sized .before in
+    let bytes = content (spanning .before .before .before .before) in
+    rw (long (spanning .before .before .before .before), sym (spans (spanning .before)) ∙ spanning .if2 .left, eq-eqb (length bytes) (curveHead + 4 * countIn bytes) (omega (arith, count spanning, sized .if3 .left)))
+    (c .limit-fault .ensures ∙ ap₂ limitFault (ap (λ (f : Curve). f .increment) (at .curve-in .ensures)) (taken at))
+
+pub curve-fault-spec : {M : Type 1} → statement M
+curve-fault-spec =
+    tie.close
+    (tie.spec
+    returns
+    number2-requires
+    number2-requires-2
+    cast-no-span
+    cast-no-span-2
+    no-span-requires
+    returns-2
+    add-count
+    cast-count
+    mul-if3
+    add-if3
+    returns-3
+    curve-in-requires
+    cast-limit-fault
+    array-share-prefix-listed
+    slice-aggregate-limit-fault
+    limit-fault-requires
+    returns-4)

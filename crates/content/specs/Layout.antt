@@ -1,0 +1,115 @@
+-- The contents of curves and claims. Document 01, 'The book': "numbers high byte first".
+--
+--     rankIn, periodIn, incrementIn   "01: T (2), d (2), c (4), then T+d values (4 each)": read from a content
+--     countIn, valueIn, curveIn
+--     curveBytes, valuesBytes         the same, written
+--     Statement, claimIn              "02: kind, left, right (1 each), then h (1) for kinds 1 to 3 or X (4) for 4 to 7": read from a content
+--     thirdWidth, claimLength         (at most 4: third-small)
+--     claimBytes                      the same, written
+--     kindIn, idIn                    a claim's kind and the ids in it (third-id)
+use Prim.Native.Nat.{ℕ, _+_, _*_, _≤_, _<_}
+use mathlib.Core.Path.{_≡_, ap}
+use mathlib.Core.Bool.{Bool, true, false}
+use mathlib.Core.List.{List, [], _∷_, _++_}
+use mathlib.Core.Option.{Option, some}
+use native.Mathlib.Omega.{arith}
+use lib.Dec.{ltb}
+use borrow.Author.Tests.{lt-ltb}
+use Rattle.minplus.specs.Curve.{Curve}
+use Rattle.minplus.specs.Claim.{Operation, sum, minimum, convolution, Kind, result, kindNumber, kindBy, kind-by}
+use Rattle.curve.specs.Filled.{listOf}
+use Rattle.numbers.specs.Numbers.{numberAt}
+use Rattle.numbers.specs.Put.{bytesOf}
+
+-- ---- curve
+
+abbrev pub rankIn : List ℕ → ℕ
+rankIn content = numberAt 2 content 0
+
+abbrev pub periodIn : List ℕ → ℕ
+periodIn content = numberAt 2 content 2
+
+abbrev pub incrementIn : List ℕ → ℕ
+incrementIn content = numberAt 4 content 4
+
+-- T + d
+abbrev pub countIn : List ℕ → ℕ
+countIn content = rankIn content + periodIn content
+
+-- the bytes of T, d and c
+abbrev pub curveHead : ℕ
+curveHead = 8
+
+abbrev pub valueIn : List ℕ → ℕ → ℕ
+valueIn content n = numberAt 4 content (curveHead + 4 * n)
+
+abbrev pub curveIn : List ℕ → Curve
+curveIn content = record {
+  rank = rankIn content;
+  period = periodIn content;
+  increment = incrementIn content;
+  listed = listOf (valueIn content) (countIn content);
+}
+
+unfoldable pub valuesBytes : List ℕ → List ℕ
+valuesBytes [] = []
+valuesBytes (v ∷ values) = bytesOf 4 v ++ valuesBytes values
+
+unfoldable pub curveBytes : Curve → List ℕ
+unfolding valuesBytes
+curveBytes f = bytesOf 2 (f .rank) ++ (bytesOf 2 (f .period) ++ (bytesOf 4 (f .increment) ++ valuesBytes (f .listed)))
+
+-- ---- claim
+
+-- a claim by its numbers: the third is h or X
+pub record Statement : Type 0 where
+  pub kind : ℕ
+  pub left : ℕ
+  pub right : ℕ
+  pub third : ℕ
+
+-- "h (1) for kinds 1 to 3 or X (4) for 4 to 7"
+unfoldable pub thirdWidth : ℕ → ℕ
+thirdWidth kind = elim (ltb kind 4) [ true ↦ 1 | false ↦ 4 ]
+
+-- the ids: left is the first, right the second, h the third
+abbrev pub idIn : List ℕ → ℕ → ℕ
+idIn content n = numberAt 1 content n
+
+abbrev pub claimIn : List ℕ → Statement
+claimIn content = record {
+  kind = numberAt 1 content 0;
+  left = idIn content 1;
+  right = idIn content 2;
+  third = numberAt (thirdWidth (numberAt 1 content 0)) content 3;
+}
+
+abbrev pub kindIn : List ℕ → Option Kind
+kindIn content = kindBy (claimIn content .kind)
+
+abbrev pub claimLength : ℕ → ℕ
+claimLength kind = 3 + thirdWidth kind
+
+unfoldable pub claimBytes : Statement → List ℕ
+unfolding thirdWidth
+claimBytes c = bytesOf 1 (c .kind) ++ (bytesOf 1 (c .left) ++ (bytesOf 1 (c .right) ++ bytesOf (thirdWidth (c .kind)) (c .third)))
+
+-- ---- laws
+
+pub third-small : (kind : ℕ) → thirdWidth kind ≤ 4
+unfolding thirdWidth
+third-small kind = go (ltb kind 4)
+  where
+    go : (b : Bool) → elim b as (λ _. ℕ) [ true ↦ 1 | false ↦ 4 ] ≤ 4
+    go true = omega arith
+    go false = omega arith
+
+-- of kinds 1 to 3 the third is an id, as left and right are
+pub third-id : (content : List ℕ) (o : Operation) → kindIn content ≡ some (result o) → claimIn content .third ≡ idIn content 3
+unfolding thirdWidth kindNumber
+third-id content o is = ap (λ (b : Bool). numberAt (elim b as (λ _. ℕ) [ true ↦ 1 | false ↦ 4 ]) content 3) (lt-ltb (claimIn content .kind) 4 (small o (kind-by (claimIn content .kind) (result o) .0 is)))
+  where
+    small : (o : Operation) → claimIn content .kind ≡ kindNumber (result o) → claimIn content .kind < 4
+    small sum e = omega (arith, e)
+    small minimum e = omega (arith, e)
+    small convolution e = omega (arith, e)

@@ -1,0 +1,107 @@
+use mathlib.Core.Path.{_≡_, refl, sym, ap, _∙_}
+use native.Mathlib.Omega.{arith}
+use lib.ListN.{length}
+use denote.Ref.{now}
+use Prim.Native.Nat.{ℕ, _+_, _≤_}
+use borrow.Author.Tests.{leb-false}
+use Rattle.content.specs.declared.Checked.the-variants.{Sound}
+use Rattle.content.specs.Layout.{third-small}
+use Rattle.field.specs.Steps.{maxClaims, full, after}
+use Rattle.writer.specs.Writing.{Call, addClaim, fieldOf, first, argumentFault, callFault}
+use Rattle.writer.specs.Held.{claim-size, room-after, order-after, fault-is, moved-by, refused-return, taken-return}
+use borrow.Author.Needs.{needs}
+use Rattle.writer.proofs.calls.add_claim.Statement.{statement}
+use Rattle.writer.proofs.calls.add_claim.Tie as tie
+
+abbrev call : tie.Start → Call
+call c = let a = c .args in addClaim (record { kind = a .kind; left = a .left; right = a .right; third = a .third })
+
+size : (c : tie.After-first2) → length (fieldOf (call (c .before .before .before .before .before .before .before .before))) ≡ 6 + c .before .before .before .before .before .third-width .result
+size c = claim-size _ ∙ sym (ap (λ (n : ℕ). 6 + n) (c .before .before .before .before .before .third-width .ensures))
+
+fault : (c : tie.After-first2) → c .first2 .result ≡ callFault (c .before .before .before .before .before .before .before .before .args .writer) (length (now (c .before .before .before .before .before .before .before .before .args .out))) (call (c .before .before .before .before .before .before .before .before))
+unfolding argumentFault
+fault c =
+    let start = c .before .before .before .before .before .before .before .before in
+    c .first2 .ensures ∙ ap (first (c .before .before .before .before .order-fault .result)) (c .before .first .ensures)
+    ∙ fault-is (call start) (start .args .writer) (length (now (start .args .out))) _ (size c) (c .before .before .before .before .order-fault .ensures) (c .before .before .before .statement-fault .ensures) (c .before .before .room-fault .ensures)
+
+room : (c : tie.After-first2) → c .first2 .result ≡ Sound → c .before .before .before .before .before .before .before .before .args .writer .state .place + length (fieldOf (call (c .before .before .before .before .before .before .before .before))) ≤ length (now (c .before .before .before .before .before .before .before .before .args .out))
+room c is = room-after (c .before .before .before .before .before .before .before .before .args .writer) (length (now (c .before .before .before .before .before .before .before .before .args .out))) (call (c .before .before .before .before .before .before .before .before)) (sym (fault c) ∙ is)
+
+third-width-requires : tie.Need-third-width-requires
+third-width-requires c κs = search needs
+
+add-size : tie.Need-add-size
+add-size c = omega (arith, c .third-width .ensures, third-small (c .before .before .before .args .kind))
+
+order-fault-requires : tie.Need-order-fault-requires
+order-fault-requires c κs = search needs
+
+statement-fault-requires : tie.Need-statement-fault-requires
+statement-fault-requires c κs = search needs
+
+room-fault-requires : tie.Need-room-fault-requires
+room-fault-requires c κs = search needs
+
+first-requires : tie.Need-first-requires
+first-requires c κs = search needs
+
+first-requires-2 : tie.Need-first-requires-2
+first-requires-2 c κs = search needs
+
+enum-told : tie.Need-enum-told
+enum-told c = search needs
+
+returns : tie.Need-returns
+returns c =
+    let at = c .before .before in
+    let start = at .before .before .before .before .before .before .before .before in
+    refused-return (call start) (start .args .writer) (now (start .args .out)) (fault at) _ (c .enum-told .given .1)
+
+enum-told-2 : tie.Need-enum-told-2
+enum-told-2 c = search needs
+
+put-claim-requires : tie.Need-put-claim-requires
+put-claim-requires c κs = room (c .before .before .before) (c .before .enum-told2 .given .1)
+
+add-t11 : tie.Need-add-t11
+unfolding full
+add-t11 c =
+    let at = c .before .before .before .before .before .before .before in
+    let start = at .before .before .before .before .before .before .before .before in
+    let below = order-after (start .args .writer) (length (now (start .args .out))) (call start) (sym (fault at) ∙ c .before .before .before .before .before .enum-told2 .given .1) in
+    omega (arith, leb-false maxClaims (start .args .writer .state .claims) below)
+
+add-t20 : tie.Need-add-t20
+add-t20 c = let at = c .before .before .before .before .before .before .before in omega (arith, size at, room at (c .before .before .before .before .before .enum-told2 .given .1))
+
+same-length : tie.Need-same-length
+same-length c = search needs
+
+returns-2 : tie.Need-returns-2
+unfolding after
+returns-2 c =
+    let at = c .before .before .before .before .before .before .before in
+    let start = at .before .before .before .before .before .before .before .before in
+    taken-return (call start) (start .args .writer) (now (start .args .out)) (fault at) (c .before .before .before .before .before .enum-told2 .given .1) (moved-by (call start) (start .args .writer) _ (size at)) (c .before .before .before .put-claim .ensures)
+
+pub add-claim-spec : {M : Type 1} → statement M
+add-claim-spec =
+    tie.close
+    (tie.spec
+    third-width-requires
+    add-size
+    order-fault-requires
+    statement-fault-requires
+    room-fault-requires
+    first-requires
+    first-requires-2
+    enum-told
+    returns
+    enum-told-2
+    put-claim-requires
+    add-t11
+    add-t20
+    same-length
+    returns-2)

@@ -1,0 +1,140 @@
+-- One call of a writer. Document 01: "Writing goes by begin, add curve, add claim, close. Each call may refuse with 3, 4, then 7, 6 (the list isn't T+d values), 8, 9 for a curve or
+-- 10, 11, 12 for a claim, and last 14, given exactly when too few bytes remain for this field; bytes and state then stay. A writer's refusal is a number without a place. A call that
+-- is taken writes the field's bytes after those before and no others. An unknown kind is 10. Closed books take nothing more: 3."
+--
+--     Call             the four calls with their arguments; tagOf, contentOf, fieldOf: the field that one writes
+--     fresh            a writer before it has begun
+--     callFault        why a call is refused, in that order
+--     called           the answer and the writer after it
+--     written          every byte of the buffer after it
+--     call-refused, call-taken     the two, told apart
+use Prim.Native.Nat.{ℕ, _+_}
+use mathlib.Core.Path.{_≡_, refl, ap}
+use mathlib.Core.Bool.{Bool, true, false, not}
+use mathlib.Core.List.{List, []}
+use lib.ListN.{length}
+use lib.Dec.{ltb}
+use Rattle.minplus.specs.Curve.{Curve}
+use Rattle.numbers.specs.Put.{put, bytesOf}
+use Rattle.content.specs.declared.Refusal.{Refusal}
+use Rattle.content.specs.declared.Refusal.the-variants.{OutOfOrder, TooMany, WrongVersion, NoRoom}
+use Rattle.content.specs.declared.Checked.{Checked}
+use Rattle.content.specs.declared.Checked.the-variants.{Sound, Refused}
+use Rattle.content.specs.Layout.{curveBytes, Statement, claimBytes}
+use Rattle.content.specs.Refusals.{on, listedFault, statementFault}
+use Rattle.field.specs.declared.Tag.{Tag}
+use Rattle.field.specs.declared.Tag.the-variants as tag
+use Rattle.field.specs.declared.State.{State}
+use Rattle.field.specs.Fields.{fieldBytes}
+use Rattle.field.specs.Steps.{isVersion, inOrder, full, after}
+use Rattle.writer.specs.declared.Writer.{Writer}
+use Rattle.writer.specs.declared.Called.{Called}
+
+-- begin is given the version that it writes
+pub data Call : Type 0 where
+  begin : (version : ℕ) → Call
+  addCurve : Curve → Call
+  addClaim : Statement → Call
+  close : Call
+
+abbrev pub tagOf : Call → Tag
+tagOf (begin v) = tag.Version
+tagOf (addCurve f) = tag.Curve
+tagOf (addClaim c) = tag.Claim
+tagOf close = tag.End
+
+unfoldable pub contentOf : Call → List ℕ
+unfolding curveBytes claimBytes
+contentOf (begin v) = bytesOf 1 v
+contentOf (addCurve f) = curveBytes f
+contentOf (addClaim c) = claimBytes c
+contentOf close = []
+
+abbrev pub fieldOf : Call → List ℕ
+fieldOf call = fieldBytes (tagOf call) (contentOf call)
+
+abbrev pub fresh : Writer
+fresh = record { state = record { version = 0; curves = 0; claims = 0; place = 0 }; closed = false }
+
+-- ---- why a call is refused
+
+-- the first refusal of two
+abbrev pub first : Checked → Checked → Checked
+first (Refused x) later = Refused x
+first Sound later = later
+
+-- "3" out of order, or closed, or begun twice, or not begun; "4" a 17th curve or a 257th claim
+unfoldable pub orderFault : Writer → Tag → Checked
+unfolding inOrder full
+orderFault w t =
+    on (w .closed) OutOfOrder
+    (on (not (inOrder t (w .state .version) (w .state .claims))) OutOfOrder
+    (on (full t (w .state .curves) (w .state .claims)) TooMany
+    Sound))
+
+-- "then 7, 6, 8, 9 for a curve or 10, 11, 12 for a claim"
+unfoldable pub argumentFault : ℕ → Call → Checked
+unfolding listedFault statementFault
+argumentFault curves (begin v) = on (not (isVersion v)) WrongVersion Sound
+argumentFault curves (addCurve f) = listedFault f
+argumentFault curves (addClaim c) = statementFault curves c
+argumentFault curves close = Sound
+
+-- "last 14, given exactly when too few bytes remain for this field"
+unfoldable pub roomFault : ℕ → ℕ → ℕ → Checked
+roomFault room place size = on (ltb room (place + size)) NoRoom Sound
+
+unfoldable pub callFault : Writer → ℕ → Call → Checked
+unfolding orderFault argumentFault roomFault contentOf fieldBytes
+callFault w room call =
+    first (orderFault w (tagOf call))
+    (first (argumentFault (w .state .curves) call)
+    (roomFault room (w .state .place) (length (fieldOf call))))
+
+-- ---- what a call answers and writes
+
+abbrev pub versionOf : Call → ℕ
+versionOf (begin v) = v
+versionOf (addCurve f) = 0
+versionOf (addClaim c) = 0
+versionOf close = 0
+
+abbrev pub closes : Call → Bool
+closes (begin v) = false
+closes (addCurve f) = false
+closes (addClaim c) = false
+closes close = true
+
+-- where a writer stands after a call that is taken: where a reader stands after its field
+abbrev pub movedBy : Call → Writer → Writer
+movedBy call w = record { state = after (tagOf call) (w .state) (versionOf call) (w .state .place + length (fieldOf call)); closed = closes call }
+
+-- "bytes and state then stay"
+abbrev pub calledOn : Checked → Call → Writer → Called
+calledOn (Refused x) call w = record { checked = Refused x; writer = w }
+calledOn Sound call w = record { checked = Sound; writer = movedBy call w }
+
+-- "A call that is taken writes the field's bytes after those before and no others."
+abbrev pub writtenOn : Checked → Call → Writer → List ℕ → List ℕ
+writtenOn (Refused x) call w s = s
+writtenOn Sound call w s = put s (w .state .place) (fieldOf call)
+
+unfoldable pub called : Call → Writer → List ℕ → Called
+unfolding callFault after
+called call w s = calledOn (callFault w (length s) call) call w
+
+unfoldable pub written : Call → Writer → List ℕ → List ℕ
+unfolding callFault put
+written call w s = writtenOn (callFault w (length s) call) call w s
+
+-- ---- laws
+
+module _ (call : Call) (w : Writer) (s : List ℕ) where
+  pub call-refused : (x : Refusal) → callFault w (length s) call ≡ Refused x → (called call w s ≡ record { checked = Refused x; writer = w }) × (written call w s ≡ s)
+  unfolding called written
+  call-refused x e = (ap (λ (y : Checked). calledOn y call w) e, ap (λ (y : Checked). writtenOn y call w s) e)
+
+  pub call-taken : callFault w (length s) call ≡ Sound
+      → (called call w s ≡ record { checked = Sound; writer = movedBy call w }) × (written call w s ≡ put s (w .state .place) (fieldOf call))
+  unfolding called written
+  call-taken e = (ap (λ (y : Checked). calledOn y call w) e, ap (λ (y : Checked). writtenOn y call w s) e)

@@ -1,0 +1,157 @@
+// The four calls. Whatever is passed, each has its answer; a refused call leaves writer and bytes as they were.
+ghost use mathlib.Core.Path.{_≡_};
+ghost use Rattle.writer.specs.Writing.{begin, addCurve, addClaim, close, called, written};
+use crate::Called;
+use crate::Writer;
+use crate::fields::first;
+use crate::fields::order_fault;
+use crate::fields::put_claim;
+use crate::fields::put_curve;
+use crate::fields::put_end;
+use crate::fields::put_version;
+use crate::fields::room_fault;
+use content::Checked;
+use content::claims::statement_fault;
+use content::claims::third_width;
+use content::curves::listed_fault;
+use field::State;
+use field::Tag;
+
+// The version that is written.
+const VERSION: u8 = 1;
+
+pub fn begin(writer: Writer, out: &mut [u8]) -> Called
+    ensures { λ r. ⌜ r ≡ called (begin 1) writer (now (out .entry)) ⌝ }
+    ensures { λ _. ⌜ now (out .exit) ≡ written (begin 1) writer (now (out .entry)) ⌝ }
+{
+    let state = writer.state;
+    let place = state.place;
+    let checked = first(
+        order_fault(writer, Tag::Version),
+        room_fault(out.len(), place, 4),
+    );
+    if let Checked::Refused(_) = checked {
+        return Called { checked, writer };
+    }
+    put_version(out, place, VERSION);
+    Called {
+        checked,
+        writer: Writer {
+            state: State {
+                version: VERSION,
+                curves: state.curves,
+                claims: state.claims,
+                place: place + 4,
+            },
+            closed: false,
+        },
+    }
+}
+
+// A curve of numbers of any size, with any list.
+pub fn add_curve(
+    writer: Writer,
+    out: &mut [u8],
+    rank: u64,
+    period: u64,
+    increment: u64,
+    values: &[u32],
+) -> Called
+    ensures { λ r. ⌜ r ≡ called (addCurve (record { rank = rank; period = period; increment = increment; listed = now (values .entry) })) writer (now (out .entry)) ⌝ }
+    ensures { λ _. ⌜ now (out .exit) ≡ written (addCurve (record { rank = rank; period = period; increment = increment; listed = now (values .entry) })) writer (now (out .entry)) ⌝ }
+{
+    let state = writer.state;
+    let place = state.place;
+    let size = 11 + 4 * values.len();
+    let checked = first(
+        order_fault(writer, Tag::Curve),
+        first(
+            listed_fault(rank, period, increment, values),
+            room_fault(out.len(), place, size),
+        ),
+    );
+    if let Checked::Refused(_) = checked {
+        return Called { checked, writer };
+    }
+    put_curve(out, place, rank, period, increment, values);
+    Called {
+        checked,
+        writer: Writer {
+            state: State {
+                version: state.version,
+                curves: state.curves + 1,
+                claims: state.claims,
+                place: place + size,
+            },
+            closed: false,
+        },
+    }
+}
+
+// A claim of numbers of any size. The third is h for kinds 1 to 3 and X for 4 to 7.
+pub fn add_claim(
+    writer: Writer,
+    out: &mut [u8],
+    kind: u64,
+    left: u64,
+    right: u64,
+    third: u64,
+) -> Called
+    ensures { λ r. ⌜ r ≡ called (addClaim (record { kind = kind; left = left; right = right; third = third })) writer (now (out .entry)) ⌝ }
+    ensures { λ _. ⌜ now (out .exit) ≡ written (addClaim (record { kind = kind; left = left; right = right; third = third })) writer (now (out .entry)) ⌝ }
+{
+    let state = writer.state;
+    let place = state.place;
+    let size = 6 + third_width(kind);
+    let checked = first(
+        order_fault(writer, Tag::Claim),
+        first(
+            statement_fault(kind, left, right, third, state.curves),
+            room_fault(out.len(), place, size),
+        ),
+    );
+    if let Checked::Refused(_) = checked {
+        return Called { checked, writer };
+    }
+    put_claim(out, place, kind, left, right, third);
+    Called {
+        checked,
+        writer: Writer {
+            state: State {
+                version: state.version,
+                curves: state.curves,
+                claims: state.claims + 1,
+                place: place + size,
+            },
+            closed: false,
+        },
+    }
+}
+
+pub fn close(writer: Writer, out: &mut [u8]) -> Called
+    ensures { λ r. ⌜ r ≡ called close writer (now (out .entry)) ⌝ }
+    ensures { λ _. ⌜ now (out .exit) ≡ written close writer (now (out .entry)) ⌝ }
+{
+    let state = writer.state;
+    let place = state.place;
+    let checked = first(
+        order_fault(writer, Tag::End),
+        room_fault(out.len(), place, 3),
+    );
+    if let Checked::Refused(_) = checked {
+        return Called { checked, writer };
+    }
+    put_end(out, place);
+    Called {
+        checked,
+        writer: Writer {
+            state: State {
+                version: state.version,
+                curves: state.curves,
+                claims: state.claims,
+                place: place + 3,
+            },
+            closed: true,
+        },
+    }
+}

@@ -1,0 +1,2 @@
+-- The entries for C: a writer's state as one number (States).
+pub mod States
