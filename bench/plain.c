@@ -1,9 +1,13 @@
-/* The judge of document 01 in straightforward C: what the proved one is timed against and compared with. It has the same two entries under
-   the names plain_judge and plain_curve_value. Horizons and crossings are of 64 bits with a sign; tables hold 32 bits, as a value at a tick of
+/* The judge and the writer of document 01 in straightforward C: what the proved ones are timed against and compared with. The entries are those
+   of the header, with plain_ before each name. Horizons and crossings are of 64 bits with a sign; tables hold 32 bits, as a value at a tick of
    at most 4,096 does. */
 #ifndef judge
 #define judge plain_judge
 #define curve_value plain_curve_value
+#define book_begin plain_book_begin
+#define book_add_curve plain_book_add_curve
+#define book_add_claim plain_book_add_claim
+#define book_close plain_book_close
 #endif
 #include "../include/zurmakida.h"
 
@@ -337,4 +341,121 @@ struct curve_value curve_value(const uint8_t *bytes, size_t length, uint64_t cur
         refused = ZURMAKIDA_REFUSED_TOO_LARGE;
     struct curve_value answer = {refused, refused ? 0 : value_at(&book.curves[curve], tick)};
     return answer;
+}
+
+/* ---- writing a book: a taken call adds to the state what it has written and counted */
+
+enum { FIELD_HEAD = 3, CURVE_HEAD = 8 };
+
+#define ADDED_CLAIM ((uint64_t)1 << 16)
+#define ADDED_CURVE ((uint64_t)1 << 32)
+#define BEGUN ((uint64_t)1 << 40)
+#define CLOSED ((uint64_t)1 << 47)
+
+static unsigned claims_in(uint64_t state) { return (unsigned)(state >> 16 & 0xFFFF); }
+
+static unsigned curves_in(uint64_t state) { return (unsigned)(state >> 32 & 0xFF); }
+
+static int is_begun(uint64_t state) { return (state >> 40 & 0x7F) != 0; }
+
+/* Whether a call may come that needs a book that is begun, or one that is not. */
+static int in_turn(uint64_t state, int begun) {
+    return state >> 48 == 0 && zurmakida_written(state) <= ZURMAKIDA_MAX_BOOK_BYTES && !(state & CLOSED) && is_begun(state) == begun;
+}
+
+static int has_room(uint64_t state, size_t length, size_t field) {
+    size_t written = zurmakida_written(state);
+    return written <= length && length - written >= field;
+}
+
+static struct book_call refused_with(uint64_t state, unsigned refusal) { return (struct book_call){refusal, state}; }
+
+/* Tag and length; the place of the content. */
+static uint8_t *write_head(uint64_t state, uint8_t *book, unsigned tag, size_t content_length) {
+    uint8_t *field = book + zurmakida_written(state);
+    field[0] = (uint8_t)tag;
+    write_number(field + 1, 2, content_length);
+    return field + FIELD_HEAD;
+}
+
+struct book_call book_begin(uint64_t state, uint8_t *book, size_t length) {
+    if (!in_turn(state, 0))
+        return refused_with(state, ZURMAKIDA_REFUSED_OUT_OF_PLACE);
+    if (!has_room(state, length, FIELD_HEAD + 1))
+        return refused_with(state, ZURMAKIDA_REFUSED_NO_ROOM);
+    write_head(state, book, TAG_VERSION, 1)[0] = 1;
+    return (struct book_call){0, state + FIELD_HEAD + 1 + BEGUN};
+}
+
+/* What is wrong with the numbers of a curve. */
+static unsigned refuse_curve(uint64_t rank, uint64_t period, uint64_t increment, const uint32_t *values, size_t count) {
+    if (period == 0 || period > VALUES || rank > VALUES - period)
+        return ZURMAKIDA_REFUSED_RANK_PERIOD;
+    if (count != rank + period)
+        return ZURMAKIDA_REFUSED_CURVE_LENGTH;
+    int over = increment > MAX_UNITS;
+    int falls = 0;
+    for (size_t i = 0; i < count; i++) {
+        over |= values[i] > MAX_UNITS;
+        falls |= i > 0 && values[i] < values[i - 1];
+    }
+    return over ? ZURMAKIDA_REFUSED_OVER_LIMIT : falls ? ZURMAKIDA_REFUSED_VALUES_FALL : 0;
+}
+
+struct book_call book_add_curve(uint64_t state, uint8_t *book, size_t length, uint64_t rank, uint64_t period, uint64_t increment,
+                                const uint32_t *values, size_t count) {
+    if (!in_turn(state, 1) || claims_in(state) > 0)
+        return refused_with(state, ZURMAKIDA_REFUSED_OUT_OF_PLACE);
+    if (curves_in(state) >= ZURMAKIDA_MAX_CURVES)
+        return refused_with(state, ZURMAKIDA_REFUSED_TOO_MANY);
+    unsigned refused = refuse_curve(rank, period, increment, values, count);
+    if (refused)
+        return refused_with(state, refused);
+    size_t content_length = CURVE_HEAD + 4 * count;
+    if (!has_room(state, length, FIELD_HEAD + content_length))
+        return refused_with(state, ZURMAKIDA_REFUSED_NO_ROOM);
+    uint8_t *content = write_head(state, book, TAG_CURVE, content_length);
+    write_number(content, 2, rank);
+    write_number(content + 2, 2, period);
+    write_number(content + 4, 4, increment);
+    for (size_t i = 0; i < count; i++)
+        write_number(content + CURVE_HEAD + 4 * i, 4, values[i]);
+    return (struct book_call){0, state + FIELD_HEAD + content_length + ADDED_CURVE};
+}
+
+/* What is wrong with the numbers of a claim. */
+static unsigned refuse_claim(uint64_t kind, uint64_t left, uint64_t right, uint64_t third, unsigned curves) {
+    if (kind < SUM || kind > EXACT_BACKLOG)
+        return ZURMAKIDA_REFUSED_CLAIM;
+    if (left >= curves || right >= curves || (kind < DELAY && third >= curves))
+        return ZURMAKIDA_REFUSED_NO_SUCH_CURVE;
+    return kind >= DELAY && third > MAX_BOUND ? ZURMAKIDA_REFUSED_TOO_LARGE : 0;
+}
+
+struct book_call book_add_claim(uint64_t state, uint8_t *book, size_t length, uint64_t kind, uint64_t left, uint64_t right, uint64_t third) {
+    if (!in_turn(state, 1))
+        return refused_with(state, ZURMAKIDA_REFUSED_OUT_OF_PLACE);
+    if (claims_in(state) >= ZURMAKIDA_MAX_CLAIMS)
+        return refused_with(state, ZURMAKIDA_REFUSED_TOO_MANY);
+    unsigned refused = refuse_claim(kind, left, right, third, curves_in(state));
+    if (refused)
+        return refused_with(state, refused);
+    unsigned third_length = kind < DELAY ? 1 : 4;
+    if (!has_room(state, length, FIELD_HEAD + 3 + third_length))
+        return refused_with(state, ZURMAKIDA_REFUSED_NO_ROOM);
+    uint8_t *content = write_head(state, book, TAG_CLAIM, 3 + third_length);
+    content[0] = (uint8_t)kind;
+    content[1] = (uint8_t)left;
+    content[2] = (uint8_t)right;
+    write_number(content + 3, third_length, third);
+    return (struct book_call){0, state + FIELD_HEAD + 3 + third_length + ADDED_CLAIM};
+}
+
+struct book_call book_close(uint64_t state, uint8_t *book, size_t length) {
+    if (!in_turn(state, 1))
+        return refused_with(state, ZURMAKIDA_REFUSED_OUT_OF_PLACE);
+    if (!has_room(state, length, FIELD_HEAD))
+        return refused_with(state, ZURMAKIDA_REFUSED_NO_ROOM);
+    write_head(state, book, TAG_END, 0);
+    return (struct book_call){0, state + FIELD_HEAD + CLOSED};
 }

@@ -32,6 +32,7 @@ int memcmp(const void *, const void *, size_t);
 #define PROT_WRITE 2
 #define MAP_PRIVATE 2
 #define MAP_ANONYMOUS 32
+#define MAP_NORESERVE 0x4000
 #define MAP_FAILED ((void *)-1)
 void *mmap(void *, size_t, int, int, int, long);
 int mprotect(void *, size_t, int);

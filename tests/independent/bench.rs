@@ -1,10 +1,10 @@
 //! Books to measure with, and the measure itself.
 //!
 //! bench    `worst` is 256 accepted convolutions with a horizon of exactly 4,096; a kind's
-//!          name gives 256 small claims of that kind
+//!          name gives 256 small claims of that kind; `largest` has the most bytes
 //! least    the least time of a turn, in nanoseconds
 
-use crate::book::{Book, MOST_CLAIMS, MOST_CURVES};
+use crate::book::{Book, Curve, MOST_CLAIMS, MOST_CURVES, MOST_LISTED, MOST_X};
 use crate::dice::Dice;
 use crate::judge::{answer, decide, RECORD};
 use crate::law::{horizon, verdict, Verdict, MOST_HORIZON};
@@ -26,6 +26,9 @@ pub fn bench(name: &str) -> Option<Book> {
     if name == "worst" {
         return Some(worst());
     }
+    if name == "largest" {
+        return Some(largest());
+    }
     let kind = KINDS.iter().position(|k| *k == name)?;
     Some(small_claims(kind as u8 + 1))
 }
@@ -43,6 +46,30 @@ fn worst() -> Book {
         assert_eq!(verdict(&book, claim), Verdict::Accepted);
     }
     repeated(book)
+}
+
+/// 16 curves of 256 values and 256 claims with an X.
+fn largest() -> Book {
+    let mut book = Book::default();
+    let mut dice = Dice::new(0, 0);
+    for k in 0..MOST_CURVES as i64 {
+        let mut now = 0;
+        let mut rise = |_| {
+            now += dice.below(3_000);
+            now
+        };
+        book.add(Curve {
+            t: MOST_LISTED - 1 - k,
+            d: 1 + k,
+            c: k,
+            values: (0..MOST_LISTED).map(&mut rise).collect(),
+        });
+    }
+    for k in 0..MOST_CLAIMS as i64 {
+        let (kind, left, right) = (4 + k % 4, k % 16, k / 16);
+        book.claim(kind as u8, left as u8, right as u8, MOST_X - k);
+    }
+    book
 }
 
 fn repeated(mut book: Book) -> Book {

@@ -55,7 +55,7 @@ pub fn check(seed: u64, count: u64, answers: &mut impl Read) -> Result<String, S
 }
 
 /// Exactly `length` bytes, or the fewer that were left.
-fn take(answers: &mut impl Read, length: usize) -> Result<Vec<u8>, Vec<u8>> {
+pub fn take(answers: &mut impl Read, length: usize) -> Result<Vec<u8>, Vec<u8>> {
     let mut bytes = Vec::new();
     match answers.take(length as u64).read_to_end(&mut bytes) {
         Ok(n) if n == length => Ok(bytes),
@@ -63,7 +63,7 @@ fn take(answers: &mut impl Read, length: usize) -> Result<Vec<u8>, Vec<u8>> {
     }
 }
 
-fn take_number(answers: &mut impl Read) -> Result<u64, String> {
+pub fn take_number(answers: &mut impl Read) -> Result<u64, String> {
     let bytes = take(answers, 8).map_err(|_| "the answer is missing".to_string())?;
     Ok(bytes.iter().fold(0, |n, b| n * 256 + u64::from(*b)))
 }

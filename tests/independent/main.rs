@@ -4,12 +4,16 @@
 //! judge.rs     the entries' answers                text.rs      the program's lines
 //! make.rs      sound books                         spoil.rs     spoiled ones
 //! cases.rs     the cases and their form            check.rs     answers compared
+//! writer.rs    the writer's answers and state      calls.rs     sequences of its calls
+//! calls_check.rs   their answers compared, and every byte
 //! beyond.rs    the rule against the definitions    examples.rs  the books of books/
 //! bench.rs     books to measure with               dice.rs      the fixed generator
 
 mod bench;
 mod beyond;
 mod book;
+mod calls;
+mod calls_check;
 mod cases;
 mod check;
 mod dice;
@@ -19,6 +23,7 @@ mod law;
 mod make;
 mod spoil;
 mod text;
+mod writer;
 
 use std::env;
 use std::io::{self, BufReader, BufWriter, Read, Write};
@@ -28,12 +33,15 @@ use std::process::ExitCode;
 const USAGE: &str = "\
 independent cases SEED COUNT     writes cases
 independent check SEED COUNT     reads their answers and compares
+independent calls SEED COUNT     writes sequences of the writer's calls
+independent check_calls SEED COUNT   reads their answers and compares
 independent beyond SEED COUNT    tries COUNT claims of each kind far beyond the horizon
 independent examples DIR         writes the example books and their lines
 independent lines < BOOK         prints the lines due for a book
 independent time TURNS < BOOK    prints the least time of a turn in nanoseconds
 independent bench NAME           writes a book to measure with: worst, sum, minimum,
-                                 convolution, delay, exact_delay, backlog, exact_backlog
+                                 convolution, delay, exact_delay, backlog, exact_backlog,
+                                 or largest
 ";
 
 fn main() -> ExitCode {
@@ -42,6 +50,8 @@ fn main() -> ExitCode {
     let done = match words.as_slice() {
         ["cases", seed, count] => cases(seed, count),
         ["check", seed, count] => check(seed, count),
+        ["calls", seed, count] => calls(seed, count),
+        ["check_calls", seed, count] => check_calls(seed, count),
         ["beyond", seed, count] => beyond(seed, count),
         ["examples", folder] => examples(folder),
         ["lines"] => lines(),
@@ -87,6 +97,24 @@ fn cases(seed: &str, count: &str) -> Result<(), String> {
 fn check(seed: &str, count: &str) -> Result<(), String> {
     let mut answers = BufReader::new(io::stdin().lock());
     let summary = check::check(number(seed)?, number(count)?, &mut answers)?;
+    print!("{summary}");
+    Ok(())
+}
+
+fn calls(seed: &str, count: &str) -> Result<(), String> {
+    let (seed, count) = (number(seed)?, number(count)?);
+    let mut out = BufWriter::new(io::stdout().lock());
+    for index in 0..count {
+        for sequence in calls::sequences(seed, index) {
+            calls::write(&sequence, &mut out).map_err(failed)?;
+        }
+    }
+    out.flush().map_err(failed)
+}
+
+fn check_calls(seed: &str, count: &str) -> Result<(), String> {
+    let mut answers = BufReader::new(io::stdin().lock());
+    let summary = calls_check::check(number(seed)?, number(count)?, &mut answers)?;
     print!("{summary}");
     Ok(())
 }
