@@ -25,8 +25,8 @@ use Rattle.numbers.specs.Back.{Bytes}
 use Rattle.content.specs.declared.Refusal.the-variants.{BookTooLong}
 use Rattle.content.specs.declared.Checked.the-variants.{Sound}
 use Rattle.content.specs.Layout.{curveIn, curveBytes, Statement, thirdWidth, claimIn, claimBytes}
-use Rattle.content.specs.Sound.{WellStated, curve-well-formed}
-use Rattle.content.specs.Back.{curve-back, curve-taken, curve-again, curve-small, claim-back, claim-taken, claim-again, claim-sound, claim-small}
+use Rattle.content.specs.Sound.{WellStated, curve-well-formed, claim-sound}
+use Rattle.content.specs.Back.{curve-back, curve-taken, curve-again, curve-small, claim-back, claim-taken, claim-again, claim-small}
 use Rattle.field.specs.declared.Tag.{Tag}
 use Rattle.field.specs.declared.Tag.the-variants as tag
 use Rattle.field.specs.declared.State.{State}
@@ -34,7 +34,7 @@ use Rattle.field.specs.declared.Field.{Field}
 use Rattle.field.specs.declared.Field.the-variants as field
 use Rattle.field.specs.Fields.{contentAt, versionIn, fieldBytes}
 use Rattle.field.specs.Steps.{maxCurves, maxClaims, isVersion, contentFault, inOrder, full, after, stepAt, Takes, takes, after-place, next-inside}
-use Rattle.field.specs.Back.{version-fits, version-back, version-taken, version-sound, version-again, field-taken, content-bytes, field-again, end-last}
+use Rattle.field.specs.Back.{version-fits, begun-on, version-back, version-taken, version-sound, version-again, field-taken, content-bytes, field-again, end-last}
 use Rattle.book.specs.Reading.{Contents, Read, sound, refused, maxBytes, start, readOn, readFrom, readBook}
 use Rattle.book.specs.Ground.{w8, w8-contents, w8-read}
 use Rattle.book.specs.Sound.{Each, SoundCurve, SoundClaim, sound-book, read-steps}
@@ -120,9 +120,6 @@ reached-version v post right r =
 
 map-more : {A : Type 0} (g : ℕ → A) (l : List ℕ) (p : ℕ) {m : List A} {x : A} → map g l ≡ m → g p ≡ x → map g (l ++ (p ∷ [])) ≡ m ++ (x ∷ [])
 map-more {A} g l p e e′ = map-append g l (p ∷ []) ∙ ap₂ (λ (m : List A) (x : A). m ++ (x ∷ [])) e e′
-
-begun-on : (v : ℕ) → isVersion v ≡ true → eqb v 0 ≡ false
-begun-on v right = ne-eqb v 0 (λ e. omega (arith, e, version-fits v right))
 
 abbrev listed : ℕ → List Curve → List Statement → Listing
 listed v curves claims = record { version = v; curves = curves; claims = claims }

@@ -27,6 +27,7 @@ use Rattle.field.specs.declared.Field.the-variants as field
 use Rattle.field.specs.Fields.{contentAt, versionIn}
 use Rattle.content.specs.Refusals.{on, curveFault, claimFault, on-sound}
 use Rattle.field.specs.Steps.{maxCurves, maxClaims, isVersion, versionFault, contentFault, inOrder, full, after, stepAt, takes, refused-at, next-inside}
+use Rattle.field.specs.Back.{version-sound}
 use Rattle.book.specs.Reading.{Contents, Read, sound, refused, maxBytes, start, readOn, readFrom, readBook}
 
 -- of every member of a list
@@ -80,13 +81,10 @@ record Kept (s : List ℕ) (st : State) (curves claims : List ℕ) : Type 0 wher
 
 module _ {s : List ℕ} {st : State} {curves claims : List ℕ} (kept : Kept s st curves claims) (next : State) where
   kept-version : stepAt s st ≡ field.Taken tag.Version next → Kept s next curves claims
-  unfolding after contentFault versionFault
+  unfolding after contentFault
   kept-version e =
       let taken = takes s st tag.Version next e in
-      let content : List ℕ = contentAt s (st .place) in
-      let is-one : Bool = isVersion (versionIn content) in
-      let long = on-sound (not (eqb (length content) 1)) WrongVersion (on (not is-one) WrongVersion Sound) (taken .content) in
-      let right : is-one ≡ true = not-false is-one (on-sound (not is-one) WrongVersion Sound (long .1) .0) in
+      let right = version-sound (contentAt s (st .place)) (taken .content) .1 in
       record {
         version-known = inr (ap (λ (x : State). isVersion (x .version)) (taken .then) ∙ right);
         curve-count = ap (λ (x : State). x .curves) (taken .then) ∙ kept .curve-count;

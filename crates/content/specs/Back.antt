@@ -3,7 +3,7 @@
 --     values-bytes-more     one value more at the end; length-values, length-curve, length-claim: how many bytes are written; curve-small, claim-small: at most
 --     curve-back            of a well formed curve's bytes that curve is read, and they are not refused (curve-taken)
 --     curve-again           a content that is not refused is the bytes of the curve that it says
---     claim-back, claim-taken, claim-again     the same for a claim, of at most 256 curves; claim-sound: what is known of a content that is not refused
+--     claim-back, claim-taken, claim-again     the same for a claim, of at most 256 curves
 --     bytes-curve, bytes-claim     what is written is bytes
 use Prim.Native.Nat.{ℕ, zero, suc, _+_, _*_, _^_, _≤_, _<_}
 use mathlib.Core.Path.{_≡_, refl, sym, ap, ap₂, _∙_}
@@ -24,7 +24,7 @@ use Rattle.content.specs.declared.Refusal.the-variants.{CurveLength, Cur
 use Rattle.content.specs.declared.Checked.the-variants.{Sound}
 use Rattle.content.specs.Layout.{rankIn, periodIn, incrementIn, countIn, curveHead, valueIn, curveIn, valuesBytes, curveBytes, Statement, idIn, thirdWidth, claimIn, claimLength, claimBytes, third-small}
 use Rattle.content.specs.Refusals.{on, noSpan, curveFault, lastId, farX, statementFault, claimFault, on-sound}
-use Rattle.content.specs.Sound.{well-span, well-limits, WellStated, well-stated}
+use Rattle.content.specs.Sound.{well-span, well-limits, WellStated, well-stated, claim-sound}
 
 -- ---- a curve's values
 
@@ -219,13 +219,6 @@ module _ {curves : ℕ} (c : Statement) (few : curves ≤ 256) (w : WellStated c
   claim-taken =
       ap (λ (d : Statement). on (not (eqb (length claim) (claimLength (d .kind)))) WrongClaim (statementFault curves d)) claim-back
       ∙ rw (eq-eqb (length claim) (claimLength (c .kind)) (length-claim c)) (well-stated curves c .1 w)
-
-pub claim-sound : (curves : ℕ) (content : List ℕ) → claimFault curves content ≡ Sound
-    → (length content ≡ claimLength (claimIn content .kind)) × WellStated curves (claimIn content)
-unfolding claimFault
-claim-sound curves content e =
-    let whole = on-sound (not (eqb (length content) (claimLength (claimIn content .kind)))) WrongClaim _ e in
-    (eqb-true _ _ (not-false _ (whole .0)), well-stated curves (claimIn content) .0 (whole .1))
 
 pub claim-again : (curves : ℕ) (content : List ℕ) → Bytes content → claimFault curves content ≡ Sound → claimBytes (claimIn content) ≡ content
 unfolding claimBytes

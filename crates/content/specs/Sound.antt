@@ -2,6 +2,7 @@
 --
 --     listed-well           a curve is not refused exactly when it is within document 01's limits; curve-well-formed: so a content that is not refused says such a curve
 --     WellStated            a claim of a known kind whose ids name curves of so many, with an X within its limit: exactly what is not refused (well-stated)
+--     claim-sound           a claim's content that is not refused has the length of its kind, and is such a claim
 --     Stands                a claim's content states a claim of curves that the book has, with an X within its limit (claim-stands)
 use Prim.Native.Nat.{ℕ, suc, _*_, _+_, _-_, _≤_, _<_}
 use mathlib.Core.Path.{_≡_, refl, sym, ap, _∙_}
@@ -126,6 +127,13 @@ well-stated curves c = (
 
 -- ---- a claim's content
 
+pub claim-sound : (curves : ℕ) (content : List ℕ) → claimFault curves content ≡ Sound
+    → (length content ≡ claimLength (claimIn content .kind)) × WellStated curves (claimIn content)
+unfolding claimFault
+claim-sound curves content e =
+    let whole = on-sound (not (eqb (length content) (claimLength (claimIn content .kind)))) WrongClaim _ e in
+    (eqb-true _ _ (not-false _ (whole .0)), well-stated curves (claimIn content) .0 (whole .1))
+
 pub record Stands (curves : ℕ) (content : List ℕ) : Type 0 where
   pub stated : Stated
   pub so : claimField curves content ≡ claim-field.Stated stated
@@ -135,16 +143,16 @@ pub record Stands (curves : ℕ) (content : List ℕ) : Type 0 where
   pub x-fits : xOf (stated .claim) ≤ maxX
 
 pub claim-stands : (curves : ℕ) (content : List ℕ) → claimFault curves content ≡ Sound → Stands curves content
-unfolding claimFault claimField statementField farX
+unfolding claimField statementField statementFault farX
 claim-stands curves content e =
     let c : Statement = claimIn content in
-    let whole = on-sound (not (eqb (length content) (claimLength (c .kind)))) WrongClaim _ e in
-    let w = well-stated curves c .0 (whole .1) in
-    let fault : kindFault (w .kind) curves c ≡ Sound = by-fault (kindBy (c .kind)) (w .kind) (w .known) (whole .1) in
+    let told = claim-sound curves content e in
+    let w = told .1 in
+    let fault : kindFault (w .kind) curves c ≡ Sound = by-fault (kindBy (c .kind)) (w .kind) (w .known) (well-stated curves c .1 w) in
     record {
       stated = statedOf (w .kind) c;
       so =
-          claim-whole curves content (eqb-true _ _ (not-false _ (whole .0)))
+          claim-whole curves content (told .0)
           ∙ ap (λ (κ? : Option Kind). stated κ? curves c) (w .known) ∙ ap (λ (y : Checked). statedOr y (statedOf (w .kind) c)) fault;
       left-named = w .left-named;
       right-named = w .right-named;

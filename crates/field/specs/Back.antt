@@ -1,6 +1,6 @@
 -- Reading and writing a field undo each other.
 --
---     version-fits              a version is a byte and not 0: all that is used of its number
+--     version-fits              a version is a number of seven bits and not 0 (begun-on): all that is used of it
 --     version-back, version-taken     a version's content, read of its bytes; version-sound, version-again: one that is not refused
 --     tag-back, tag-number      a tag and its number
 --     length-field              how many bytes are written; bytes-field, content-bytes: they are bytes, and so is a content that is read of bytes
@@ -16,7 +16,7 @@ use native.Mathlib.Omega.{arith}
 use lib.ListN.{length, take, drop, length-append, length-drop}
 use lib.Seq.{take-add, take-all, take-at, length-take-le}
 use lib.Dec.{ltb, eqb}
-use borrow.Author.Tests.{ltb-false, eqb-true, not-false, le-ltb}
+use borrow.Author.Tests.{ltb-false, eqb-true, not-false, le-ltb, ne-eqb}
 use Rattle.minplus.specs.Search.{numbered, numbered-so}
 use Rattle.numbers.specs.Numbers.{numberAt}
 use Rattle.numbers.specs.Put.{bytesOf, length-bytes}
@@ -37,11 +37,14 @@ use Rattle.field.specs.Steps.{isVersion, versionFault, endFault, content
 -- ---- a version
 
 module _ (v : ℕ) (right : isVersion v ≡ true) where
-  pub version-fits : (0 < v) × (v < 256)
+  pub version-fits : (0 < v) × (v < 128)
   version-fits = let one : v ≡ 1 = eqb-true v 1 right in (omega (arith, one), omega (arith, one))
 
+  pub begun-on : eqb v 0 ≡ false
+  begun-on = ne-eqb v 0 (λ e. omega (arith, e, version-fits))
+
   pub version-back : versionIn (bytesOf 1 v) ≡ v
-  version-back = ap (λ (t : List ℕ). numberAt 1 t 0) (sym (append-nil (bytesOf 1 v))) ∙ number-front 1 v [] (version-fits .1)
+  version-back = ap (λ (t : List ℕ). numberAt 1 t 0) (sym (append-nil (bytesOf 1 v))) ∙ number-front 1 v [] (omega (arith, version-fits .1))
 
   pub version-taken : versionFault (bytesOf 1 v) ≡ Sound
   unfolding versionFault

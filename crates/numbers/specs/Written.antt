@@ -18,11 +18,12 @@ pub record Wrote (s : List ℕ) (at : ℕ) (t s′ : List ℕ) (next : ℕ) : Ty
 pub wrote-nothing : (s : List ℕ) (at : ℕ) → at ≤ length s → Wrote s at [] s at
 wrote-nothing s at inside = record { fits = omega (arith, inside); held = sym (put-nothing s at); past = omega arith }
 
-pub wrote-number : {s s′ : List ℕ} (at w n : ℕ) → at + w ≤ length s → s′ ≡ putWhole s at (bytesOf w n) → Wrote s at (bytesOf w n) s′ (at + w)
-wrote-number {s} at w n fits e =
+-- a number, by the places before and after it
+pub wrote-number : {s s′ : List ℕ} (at next w n : ℕ) → at + w ≡ next → next ≤ length s → s′ ≡ putWhole s at (bytesOf w n) → Wrote s at (bytesOf w n) s′ next
+wrote-number {s} at next w n to fits e =
     let long : length (bytesOf w n) ≡ w = length-bytes w n in
-    let room : at + length (bytesOf w n) ≤ length s = omega (arith, long, fits) in
-    record { fits = room; held = e ∙ put-fits s at (bytesOf w n) room; past = omega (arith, long) }
+    let room : at + length (bytesOf w n) ≤ length s = omega (arith, long, to, fits) in
+    record { fits = room; held = e ∙ put-fits s at (bytesOf w n) room; past = omega (arith, long, to) }
 
 module _ {s : List ℕ} {at : ℕ} {t s′ : List ℕ} {next : ℕ} where
   pub wrote-length : Wrote s at t s′ next → length s′ ≡ length s

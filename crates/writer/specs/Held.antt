@@ -4,33 +4,30 @@
 --     version-put, curve-put, claim-put, end-put     a whole field, from what each step left
 --     version-size, curve-size, claim-size, end-size     how many bytes it has
 --     Filling              the values of a curve, as far as they are written: filling-none, filling-more, filling-all
---     room-after           where a call is taken, the field has room; order-after: and the count is below its limit
 --     fault-is, moved-by   the tests and the new state, part by part; refused-return, taken-return: what is returned then
 use Prim.Native.Nat.{ℕ, _+_, _*_, _≤_, _<_}
 use mathlib.Core.Path.{_≡_, refl, sym, ap, ap₂, subst, _∙_}
-use mathlib.Core.Bool.{Bool, true, false, not}
+use mathlib.Core.Bool.{Bool, true, false}
 use mathlib.Core.List.{List, [], _∷_, _++_, append-assoc}
 use native.Mathlib.Omega.{arith}
 use native.Mathlib.Nat.{add-zero}
 use native.Mathlib.Numerals.{add-one}
 use lib.ListN.{length, take, getD, length-append}
 use lib.Seq.{take-all, take-suc}
-use lib.Dec.{leb, ltb}
-use borrow.Author.Tests.{leb-true, ltb-false}
+use lib.Dec.{leb}
+use borrow.Author.Tests.{leb-true}
 use Rattle.minplus.specs.Curve.{Curve}
 use Rattle.numbers.specs.Put.{put, putWhole, bytesOf, length-put, length-bytes}
 use Rattle.numbers.specs.Written.{Wrote, wrote-nothing, wrote-number, wrote-length, wrote-on}
 use Rattle.content.specs.declared.Refusal.{Refusal}
-use Rattle.content.specs.declared.Refusal.the-variants.{OutOfOrder, TooMany, NoRoom}
 use Rattle.content.specs.declared.Checked.{Checked}
 use Rattle.content.specs.declared.Checked.the-variants.{Sound, Refused}
 use Rattle.content.specs.Layout.{valuesBytes, curveBytes, Statement, thirdWidth, claimBytes}
-use Rattle.content.specs.Refusals.{on, on-sound}
 use Rattle.content.specs.Back.{values-bytes-more, length-values, length-curve, length-claim}
 use Rattle.field.specs.declared.Tag.{Tag}
 use Rattle.field.specs.declared.Tag.the-variants as tag
 use Rattle.field.specs.Fields.{tagNumber, fieldBytes}
-use Rattle.field.specs.Steps.{inOrder, full, after}
+use Rattle.field.specs.Steps.{after}
 use Rattle.field.specs.Back.{length-field}
 use Rattle.writer.specs.declared.Writer.{Writer}
 use Rattle.writer.specs.declared.Called.{Called}
@@ -72,8 +69,8 @@ module _ (s : List ℕ) (place : ℕ) (t : Tag) where
   pub head-put : {s₁ s₂ : List ℕ} (n : ℕ) → place + 3 ≤ length s → s₁ ≡ putWhole s place (bytesOf 1 (tagNumber t)) → s₂ ≡ putWhole s₁ (place + 1) (bytesOf 2 n)
       → s₂ ≡ put s place (headBytes t n)
   head-put {s₁} {s₂} n fits e₁ e₂ =
-      let w₁ : Wrote s place (bytesOf 1 (tagNumber t)) s₁ (place + 1) = wrote-number place 1 (tagNumber t) (omega (arith, fits)) e₁ in
-      let w₂ : Wrote s₁ (place + 1) (bytesOf 2 n) s₂ (place + 1 + 2) = wrote-number (place + 1) 2 n (omega (arith, fits, wrote-length w₁)) e₂ in
+      let w₁ : Wrote s place (bytesOf 1 (tagNumber t)) s₁ (place + 1) = wrote-number place (place + 1) 1 (tagNumber t) refl (omega (arith, fits)) e₁ in
+      let w₂ : Wrote s₁ (place + 1) (bytesOf 2 n) s₂ (place + 1 + 2) = wrote-number (place + 1) (place + 1 + 2) 2 n refl (omega (arith, fits, wrote-length w₁)) e₂ in
       wrote-on w₁ w₂ .held
 
   pub head-length : {s₁ : List ℕ} (n : ℕ) → place + 3 ≤ length s → s₁ ≡ put s place (headBytes t n) → length s₁ ≡ length s
@@ -96,10 +93,6 @@ module _ (s : List ℕ) (place : ℕ) (t : Tag) where
     unfolding fieldBytes
     field-put w = wrote-on head w .held ∙ ap (put s place) (append-assoc (bytesOf 1 (tagNumber t)) (bytesOf 2 (length content)) content)
 
--- a number, by the places before and after it
-number-put : {s s′ : List ℕ} (at next w n : ℕ) → at + w ≡ next → next ≤ length s → s′ ≡ putWhole s at (bytesOf w n) → Wrote s at (bytesOf w n) s′ next
-number-put {s} {s′} at next w n to fits e = subst (λ (k : ℕ). Wrote s at (bytesOf w n) s′ k) to (wrote-number at w n (omega (arith, fits, to)) e)
-
 module _ (s : List ℕ) {s₁ : List ℕ} (place : ℕ) where
   pub version-put : {s₂ : List ℕ} (v : ℕ) → place + length (fieldOf (begin v)) ≤ length s → s₁ ≡ put s place (headBytes tag.Version 1) → s₂ ≡ putWhole s₁ (place + 3) (bytesOf 1 v)
       → s₂ ≡ put s place (fieldOf (begin v))
@@ -107,7 +100,7 @@ module _ (s : List ℕ) {s₁ : List ℕ} (place : ℕ) where
   version-put {s₂} v fits e₁ e₂ =
       let long : 1 ≡ length (bytesOf 1 v) = sym (length-bytes 1 v) in
       let e : s₁ ≡ put s place (headBytes tag.Version (length (bytesOf 1 v))) = e₁ ∙ ap (λ (n : ℕ). put s place (headBytes tag.Version n)) long in
-      field-put s place tag.Version (bytesOf 1 v) fits e (wrote-number (place + 3) 1 v (omega (arith, room s place tag.Version (bytesOf 1 v) fits e, long)) e₂)
+      field-put s place tag.Version (bytesOf 1 v) fits e (wrote-number (place + 3) (place + 3 + 1) 1 v refl (omega (arith, room s place tag.Version (bytesOf 1 v) fits e, long)) e₂)
 
   pub end-put : place + length (fieldOf close) ≤ length s → s₁ ≡ put s place (headBytes tag.End 0) → s₁ ≡ put s place (fieldOf close)
   unfolding contentOf
@@ -121,9 +114,9 @@ module _ (s : List ℕ) {s₁ : List ℕ} (place : ℕ) where
       let long : 8 + 4 * length (f .listed) ≡ length (curveBytes f) = sym (length-curve f) in
       let e : s₁ ≡ put s place (headBytes tag.Curve (length (curveBytes f))) = e₁ ∙ ap (λ (n : ℕ). put s place (headBytes tag.Curve n)) long in
       let left : place + 3 + length (curveBytes f) ≤ length s₁ = room s place tag.Curve (curveBytes f) fits e in
-      let w₂ : Wrote s₁ (place + 3) (bytesOf 2 (f .rank)) s₂ (place + 5) = number-put (place + 3) (place + 5) 2 (f .rank) (omega arith) (omega (arith, left, long)) e₂ in
-      let w₃ : Wrote s₂ (place + 5) (bytesOf 2 (f .period)) s₃ (place + 7) = number-put (place + 5) (place + 7) 2 (f .period) (omega arith) (omega (arith, left, long, wrote-length w₂)) e₃ in
-      let w₄ : Wrote s₃ (place + 7) (bytesOf 4 (f .increment)) s₄ (place + 11) = number-put (place + 7) (place + 11) 4 (f .increment) (omega arith) (omega (arith, left, long, wrote-length w₂, wrote-length w₃)) e₄ in
+      let w₂ : Wrote s₁ (place + 3) (bytesOf 2 (f .rank)) s₂ (place + 5) = wrote-number (place + 3) (place + 5) 2 (f .rank) (omega arith) (omega (arith, left, long)) e₂ in
+      let w₃ : Wrote s₂ (place + 5) (bytesOf 2 (f .period)) s₃ (place + 7) = wrote-number (place + 5) (place + 7) 2 (f .period) (omega arith) (omega (arith, left, long, wrote-length w₂)) e₃ in
+      let w₄ : Wrote s₃ (place + 7) (bytesOf 4 (f .increment)) s₄ (place + 11) = wrote-number (place + 7) (place + 11) 4 (f .increment) (omega arith) (omega (arith, left, long, wrote-length w₂, wrote-length w₃)) e₄ in
       let w₅ : Wrote s₄ (place + 11) (valuesBytes (f .listed)) s₅ (place + 11 + length (valuesBytes (f .listed))) =
       record { fits = omega (arith, left, long, wrote-length w₂, wrote-length w₃, wrote-length w₄, length-values (f .listed)); held = e₅; past = refl } in
       field-put s place tag.Curve (curveBytes f) fits e (wrote-on w₂ (wrote-on w₃ (wrote-on w₄ w₅)))
@@ -137,10 +130,10 @@ module _ (s : List ℕ) {s₁ : List ℕ} (place : ℕ) where
       let long : 3 + w ≡ length (claimBytes c) = sym (length-claim c) in
       let e : s₁ ≡ put s place (headBytes tag.Claim (length (claimBytes c))) = e₁ ∙ ap (λ (n : ℕ). put s place (headBytes tag.Claim n)) long in
       let left : place + 3 + length (claimBytes c) ≤ length s₁ = room s place tag.Claim (claimBytes c) fits e in
-      let w₂ : Wrote s₁ (place + 3) (bytesOf 1 (c .kind)) s₂ (place + 4) = number-put (place + 3) (place + 4) 1 (c .kind) (omega arith) (omega (arith, left, long)) e₂ in
-      let w₃ : Wrote s₂ (place + 4) (bytesOf 1 (c .left)) s₃ (place + 5) = number-put (place + 4) (place + 5) 1 (c .left) (omega arith) (omega (arith, left, long, wrote-length w₂)) e₃ in
-      let w₄ : Wrote s₃ (place + 5) (bytesOf 1 (c .right)) s₄ (place + 6) = number-put (place + 5) (place + 6) 1 (c .right) (omega arith) (omega (arith, left, long, wrote-length w₂, wrote-length w₃)) e₄ in
-      let w₅ : Wrote s₄ (place + 6) (bytesOf w (c .third)) s₅ (place + 6 + w) = wrote-number (place + 6) w (c .third) (omega (arith, left, long, wrote-length w₂, wrote-length w₃, wrote-length w₄)) e₅ in
+      let w₂ : Wrote s₁ (place + 3) (bytesOf 1 (c .kind)) s₂ (place + 4) = wrote-number (place + 3) (place + 4) 1 (c .kind) (omega arith) (omega (arith, left, long)) e₂ in
+      let w₃ : Wrote s₂ (place + 4) (bytesOf 1 (c .left)) s₃ (place + 5) = wrote-number (place + 4) (place + 5) 1 (c .left) (omega arith) (omega (arith, left, long, wrote-length w₂)) e₃ in
+      let w₄ : Wrote s₃ (place + 5) (bytesOf 1 (c .right)) s₄ (place + 6) = wrote-number (place + 5) (place + 6) 1 (c .right) (omega arith) (omega (arith, left, long, wrote-length w₂, wrote-length w₃)) e₄ in
+      let w₅ : Wrote s₄ (place + 6) (bytesOf w (c .third)) s₅ (place + 6 + w) = wrote-number (place + 6) (place + 6 + w) w (c .third) refl (omega (arith, left, long, wrote-length w₂, wrote-length w₃, wrote-length w₄)) e₅ in
       field-put s place tag.Claim (claimBytes c) fits e (wrote-on w₂ (wrote-on w₃ (wrote-on w₄ w₅)))
 
 -- ---- the values of a curve
@@ -160,40 +153,17 @@ module _ {s : List ℕ} {at : ℕ} {values : List ℕ} {n : ℕ} {s′ : List �
 
   pub filling-more : {s″ : List ℕ} → n < length values → s″ ≡ putWhole s′ (at + 4 * n) (bytesOf 4 (getD values n 0)) → Filling s at values (n + 1) s″
   filling-more {s″} more e =
-      let fits : at + 4 * n + 4 ≤ length s = omega (arith, more, f .room) in
       let text : valuesBytes (take n values) ++ bytesOf 4 (getD values n 0) ≡ valuesBytes (take (n + 1) values) =
       sym (ap (λ (k : ℕ). valuesBytes (take k values)) (add-one n) ∙ ap valuesBytes (take-suc values n 0 more) ∙ values-bytes-more (take n values) (getD values n 0)) in
-      let next : at + 4 * n + 4 ≡ at + 4 * (n + 1) = omega arith in
       record {
         within = omega (arith, more);
         room = f .room;
-        so-far = subst (λ (k : ℕ). Wrote s at (valuesBytes (take (n + 1) values)) s″ k) next
-            (subst (λ (t : List ℕ). Wrote s at t s″ (at + 4 * n + 4)) text (wrote-on (f .so-far) (wrote-number (at + 4 * n) 4 (getD values n 0) (omega (arith, fits, filling-length)) e)));
+        so-far = subst (λ (t : List ℕ). Wrote s at t s″ (at + 4 * (n + 1))) text
+            (wrote-on (f .so-far) (wrote-number (at + 4 * n) (at + 4 * (n + 1)) 4 (getD values n 0) (omega arith) (omega (arith, more, f .room, filling-length)) e));
       }
 
   pub filling-all : length values ≤ n → s′ ≡ put s at (valuesBytes values)
   filling-all all = f .so-far .held ∙ ap (λ (l : List ℕ). put s at (valuesBytes l)) (take-all n values all)
-
--- ---- a call that is taken
-
-then-sound : (x y : Checked) → first x y ≡ Sound → (x ≡ Sound) × (y ≡ Sound)
-then-sound (Refused x) y e = let z : _≡_ {A = ℕ} 0 1 = cc in absurd (omega (arith, z))
-then-sound Sound y e = (refl, e)
-
-module _ (w : Writer) (room : ℕ) (call : Call) (e : callFault w room call ≡ Sound) where
-  pub room-after : w .state .place + length (fieldOf call) ≤ room
-  unfolding callFault roomFault
-  room-after =
-      let after-order = then-sound (orderFault w (tagOf call)) (first (argumentFault (w .state .curves) call) (roomFault room (w .state .place) (length (fieldOf call)))) e .1 in
-      let last = then-sound (argumentFault (w .state .curves) call) (roomFault room (w .state .place) (length (fieldOf call))) after-order .1 in
-      ltb-false _ _ (on-sound (ltb room (w .state .place + length (fieldOf call))) NoRoom Sound last .0)
-
-  pub order-after : full (tagOf call) (w .state .curves) (w .state .claims) ≡ false
-  unfolding callFault orderFault
-  order-after =
-      let t₁ = on-sound (w .closed) OutOfOrder _ (then-sound (orderFault w (tagOf call)) _ e .0) in
-      let t₂ = on-sound (not (inOrder (tagOf call) (w .state .version) (w .state .claims))) OutOfOrder _ (t₁ .1) in
-      on-sound (full (tagOf call) (w .state .curves) (w .state .claims)) TooMany _ (t₂ .1) .0
 
 -- ---- what a call returns
 

@@ -7,13 +7,17 @@
 --     callFault        why a call is refused, in that order
 --     called           the answer and the writer after it
 --     written          every byte of the buffer after it
---     call-refused, call-taken     the two, told apart
-use Prim.Native.Nat.{ℕ, _+_}
+--     Passes           a call is taken exactly when (passes)
+--     call-refused, call-taken     what a call leaves that is refused, and one that is taken
+use Prim.Native.Nat.{ℕ, _+_, _≤_}
 use mathlib.Core.Path.{_≡_, refl, ap}
 use mathlib.Core.Bool.{Bool, true, false, not}
 use mathlib.Core.List.{List, []}
+use mathlib.Core.Logic.{_↔_}
+use native.Mathlib.Omega.{arith}
 use lib.ListN.{length}
 use lib.Dec.{ltb}
+use borrow.Author.Tests.{ltb-false, le-ltb, not-false}
 use Rattle.minplus.specs.Curve.{Curve}
 use Rattle.numbers.specs.Put.{put, bytesOf}
 use Rattle.content.specs.declared.Refusal.{Refusal}
@@ -21,7 +25,7 @@ use Rattle.content.specs.declared.Refusal.the-variants.{OutOfOrder, TooMany, Wr
 use Rattle.content.specs.declared.Checked.{Checked}
 use Rattle.content.specs.declared.Checked.the-variants.{Sound, Refused}
 use Rattle.content.specs.Layout.{curveBytes, Statement, claimBytes}
-use Rattle.content.specs.Refusals.{on, listedFault, statementFault}
+use Rattle.content.specs.Refusals.{on, listedFault, statementFault, on-sound}
 use Rattle.field.specs.declared.Tag.{Tag}
 use Rattle.field.specs.declared.Tag.the-variants as tag
 use Rattle.field.specs.declared.State.{State}
@@ -128,6 +132,31 @@ unfolding callFault put
 written call w s = writtenOn (callFault w (length s) call) call w s
 
 -- ---- laws
+
+pub record Passes (w : Writer) (room : ℕ) (call : Call) : Type 0 where
+  pub still-open : w .closed ≡ false
+  pub ordered : inOrder (tagOf call) (w .state .version) (w .state .claims) ≡ true
+  pub few : full (tagOf call) (w .state .curves) (w .state .claims) ≡ false
+  pub right : argumentFault (w .state .curves) call ≡ Sound
+  pub fits : w .state .place + length (fieldOf call) ≤ room
+
+first-sound : (x y : Checked) → first x y ≡ Sound → (x ≡ Sound) × (y ≡ Sound)
+first-sound (Refused x) y e = let z : _≡_ {A = ℕ} 0 1 = cc in absurd (omega (arith, z))
+first-sound Sound y e = (refl, e)
+
+pub passes : (w : Writer) (room : ℕ) (call : Call) → (callFault w room call ≡ Sound) ↔ Passes w room call
+unfolding callFault orderFault roomFault
+passes w room call = (
+  λ e.
+      let order = first-sound (orderFault w (tagOf call)) _ e in
+      let rest = first-sound (argumentFault (w .state .curves) call) _ (order .1) in
+      let t₁ = on-sound (w .closed) OutOfOrder _ (order .0) in
+      let t₂ = on-sound (not (inOrder (tagOf call) (w .state .version) (w .state .claims))) OutOfOrder _ (t₁ .1) in
+      let t₃ = on-sound (full (tagOf call) (w .state .curves) (w .state .claims)) TooMany _ (t₂ .1) in
+      let t₄ = on-sound (ltb room (w .state .place + length (fieldOf call))) NoRoom _ (rest .1) in
+      record { still-open = t₁ .0; ordered = not-false _ (t₂ .0); few = t₃ .0; right = rest .0; fits = ltb-false _ _ (t₄ .0) },
+  λ p. rw (p .still-open, p .ordered, p .few, p .right, le-ltb room (w .state .place + length (fieldOf call)) (p .fits)),
+)
 
 module _ (call : Call) (w : Writer) (s : List ℕ) where
   pub call-refused : (x : Refusal) → callFault w (length s) call ≡ Refused x → (called call w s ≡ record { checked = Refused x; writer = w }) × (written call w s ≡ s)

@@ -26,14 +26,14 @@ pub fn begin(writer: Writer, out: &mut [u8]) -> Called
 {
     let state = writer.state;
     let place = state.place;
-    let checked = first(
-        order_fault(writer, Tag::Version),
-        room_fault(out.len(), place, 4),
-    );
+    let order = order_fault(writer, Tag::Version);
+    let room = room_fault(out.len(), place, 4);
+    let checked = first(order, room);
     if let Checked::Refused(_) = checked {
-        return Called { checked, writer };
+        return Called { checked, writer }; // not begun
     }
     put_version(out, place, VERSION);
+    let next = place + 4;
     Called {
         checked,
         writer: Writer {
@@ -41,7 +41,7 @@ pub fn begin(writer: Writer, out: &mut [u8]) -> Called
                 version: VERSION,
                 curves: state.curves,
                 claims: state.claims,
-                place: place + 4,
+                place: next,
             },
             closed: false,
         },
@@ -63,25 +63,24 @@ pub fn add_curve(
     let state = writer.state;
     let place = state.place;
     let size = 11 + 4 * values.len();
-    let checked = first(
-        order_fault(writer, Tag::Curve),
-        first(
-            listed_fault(rank, period, increment, values),
-            room_fault(out.len(), place, size),
-        ),
-    );
+    let order = order_fault(writer, Tag::Curve);
+    let curve = listed_fault(rank, period, increment, values);
+    let room = room_fault(out.len(), place, size);
+    let checked = first(order, first(curve, room));
     if let Checked::Refused(_) = checked {
-        return Called { checked, writer };
+        return Called { checked, writer }; // the curve is not counted
     }
     put_curve(out, place, rank, period, increment, values);
+    let curves = state.curves + 1;
+    let next = place + size;
     Called {
         checked,
         writer: Writer {
             state: State {
                 version: state.version,
-                curves: state.curves + 1,
+                curves,
                 claims: state.claims,
-                place: place + size,
+                place: next,
             },
             closed: false,
         },
@@ -103,25 +102,24 @@ pub fn add_claim(
     let state = writer.state;
     let place = state.place;
     let size = 6 + third_width(kind);
-    let checked = first(
-        order_fault(writer, Tag::Claim),
-        first(
-            statement_fault(kind, left, right, third, state.curves),
-            room_fault(out.len(), place, size),
-        ),
-    );
+    let order = order_fault(writer, Tag::Claim);
+    let claim = statement_fault(kind, left, right, third, state.curves);
+    let room = room_fault(out.len(), place, size);
+    let checked = first(order, first(claim, room));
     if let Checked::Refused(_) = checked {
-        return Called { checked, writer };
+        return Called { checked, writer }; // the claim is not counted
     }
     put_claim(out, place, kind, left, right, third);
+    let claims = state.claims + 1;
+    let next = place + size;
     Called {
         checked,
         writer: Writer {
             state: State {
                 version: state.version,
                 curves: state.curves,
-                claims: state.claims + 1,
-                place: place + size,
+                claims,
+                place: next,
             },
             closed: false,
         },
@@ -139,9 +137,10 @@ pub fn close(writer: Writer, out: &mut [u8]) -> Called
         room_fault(out.len(), place, 3),
     );
     if let Checked::Refused(_) = checked {
-        return Called { checked, writer };
+        return Called { checked, writer }; // not closed
     }
     put_end(out, place);
+    let next = place + 3;
     Called {
         checked,
         writer: Writer {
@@ -149,7 +148,7 @@ pub fn close(writer: Writer, out: &mut [u8]) -> Called
                 version: state.version,
                 curves: state.curves,
                 claims: state.claims,
-                place: place + 3,
+                place: next,
             },
             closed: true,
         },

@@ -7,8 +7,8 @@ use borrow.Author.Tests.{leb-false}
 use Rattle.content.specs.declared.Checked.the-variants.{Sound}
 use Rattle.content.specs.Layout.{third-small}
 use Rattle.field.specs.Steps.{maxClaims, full, after}
-use Rattle.writer.specs.Writing.{Call, addClaim, fieldOf, first, argumentFault, callFault}
-use Rattle.writer.specs.Held.{claim-size, room-after, order-after, fault-is, moved-by, refused-return, taken-return}
+use Rattle.writer.specs.Writing.{Call, addClaim, fieldOf, first, argumentFault, callFault, passes}
+use Rattle.writer.specs.Held.{claim-size, fault-is, moved-by, refused-return, taken-return}
 use borrow.Author.Needs.{needs}
 use Rattle.writer.proofs.calls.add_claim.Statement.{statement}
 use Rattle.writer.proofs.calls.add_claim.Tie as tie
@@ -27,7 +27,7 @@ fault c =
     ∙ fault-is (call start) (start .args .writer) (length (now (start .args .out))) _ (size c) (c .before .before .before .before .order-fault .ensures) (c .before .before .before .statement-fault .ensures) (c .before .before .room-fault .ensures)
 
 room : (c : tie.After-first2) → c .first2 .result ≡ Sound → c .before .before .before .before .before .before .before .before .args .writer .state .place + length (fieldOf (call (c .before .before .before .before .before .before .before .before))) ≤ length (now (c .before .before .before .before .before .before .before .before .args .out))
-room c is = room-after (c .before .before .before .before .before .before .before .before .args .writer) (length (now (c .before .before .before .before .before .before .before .before .args .out))) (call (c .before .before .before .before .before .before .before .before)) (sym (fault c) ∙ is)
+room c is = passes (c .before .before .before .before .before .before .before .before .args .writer) (length (now (c .before .before .before .before .before .before .before .before .args .out))) (call (c .before .before .before .before .before .before .before .before)) .0 (sym (fault c) ∙ is) .fits
 
 third-width-requires : tie.Need-third-width-requires
 third-width-requires c κs = search needs
@@ -65,16 +65,16 @@ enum-told-2 c = search needs
 put-claim-requires : tie.Need-put-claim-requires
 put-claim-requires c κs = room (c .before .before .before) (c .before .enum-told2 .given .1)
 
-add-t11 : tie.Need-add-t11
+add-claims : tie.Need-add-claims
 unfolding full
-add-t11 c =
+add-claims c =
     let at = c .before .before .before .before .before .before .before in
     let start = at .before .before .before .before .before .before .before .before in
-    let below = order-after (start .args .writer) (length (now (start .args .out))) (call start) (sym (fault at) ∙ c .before .before .before .before .before .enum-told2 .given .1) in
+    let below = passes (start .args .writer) (length (now (start .args .out))) (call start) .0 (sym (fault at) ∙ c .before .before .before .before .before .enum-told2 .given .1) .few in
     omega (arith, leb-false maxClaims (start .args .writer .state .claims) below)
 
-add-t20 : tie.Need-add-t20
-add-t20 c = let at = c .before .before .before .before .before .before .before in omega (arith, size at, room at (c .before .before .before .before .before .enum-told2 .given .1))
+add-next : tie.Need-add-next
+add-next c = let at = c .before .before .before .before .before .before .before in omega (arith, size at, room at (c .before .before .before .before .before .enum-told2 .given .1))
 
 same-length : tie.Need-same-length
 same-length c = search needs
@@ -101,7 +101,7 @@ add-claim-spec =
     returns
     enum-told-2
     put-claim-requires
-    add-t11
-    add-t20
+    add-claims
+    add-next
     same-length
     returns-2)

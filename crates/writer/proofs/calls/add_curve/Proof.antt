@@ -6,8 +6,8 @@ use Prim.Native.Nat.{_+_, _*_, _≤_}
 use borrow.Author.Tests.{leb-false}
 use Rattle.content.specs.declared.Checked.the-variants.{Sound}
 use Rattle.field.specs.Steps.{maxCurves, full, after}
-use Rattle.writer.specs.Writing.{Call, addCurve, fieldOf, first, argumentFault, callFault}
-use Rattle.writer.specs.Held.{curve-size, room-after, order-after, fault-is, moved-by, refused-return, taken-return}
+use Rattle.writer.specs.Writing.{Call, addCurve, fieldOf, first, argumentFault, callFault, passes}
+use Rattle.writer.specs.Held.{curve-size, fault-is, moved-by, refused-return, taken-return}
 use borrow.Author.Needs.{needs}
 use Rattle.writer.proofs.calls.add_curve.Statement.{statement}
 use Rattle.writer.proofs.calls.add_curve.Tie as tie
@@ -26,7 +26,7 @@ fault c =
     ∙ fault-is (call start) (start .args .writer) (length (now (start .args .out))) _ (size c) (c .before .before .before .before .order-fault .ensures) (c .before .before .before .listed-fault .ensures) (c .before .before .room-fault .ensures)
 
 room : (c : tie.After-first2) → c .first2 .result ≡ Sound → c .before .before .before .before .before .before .before .before .args .writer .state .place + length (fieldOf (call (c .before .before .before .before .before .before .before .before))) ≤ length (now (c .before .before .before .before .before .before .before .before .args .out))
-room c is = room-after (c .before .before .before .before .before .before .before .before .args .writer) (length (now (c .before .before .before .before .before .before .before .before .args .out))) (call (c .before .before .before .before .before .before .before .before)) (sym (fault c) ∙ is)
+room c is = passes (c .before .before .before .before .before .before .before .before .args .writer) (length (now (c .before .before .before .before .before .before .before .before .args .out))) (call (c .before .before .before .before .before .before .before .before)) .0 (sym (fault c) ∙ is) .fits
 
 mul-size : tie.Need-mul-size
 mul-size c = search needs
@@ -64,16 +64,16 @@ enum-told-2 c = search needs
 put-curve-requires : tie.Need-put-curve-requires
 put-curve-requires c κs = room (c .before .before .before) (c .before .enum-told2 .given .1)
 
-add-t12 : tie.Need-add-t12
+add-curves : tie.Need-add-curves
 unfolding full
-add-t12 c =
+add-curves c =
     let at = c .before .before .before .before .before .before .before in
     let start = at .before .before .before .before .before .before .before .before in
-    let below = order-after (start .args .writer) (length (now (start .args .out))) (call start) (sym (fault at) ∙ c .before .before .before .before .before .enum-told2 .given .1) in
+    let below = passes (start .args .writer) (length (now (start .args .out))) (call start) .0 (sym (fault at) ∙ c .before .before .before .before .before .enum-told2 .given .1) .few in
     omega (arith, leb-false maxCurves (start .args .writer .state .curves) below)
 
-add-t11 : tie.Need-add-t11
-add-t11 c = let at = c .before .before .before .before .before .before .before in omega (arith, size at, room at (c .before .before .before .before .before .enum-told2 .given .1))
+add-next : tie.Need-add-next
+add-next c = let at = c .before .before .before .before .before .before .before in omega (arith, size at, room at (c .before .before .before .before .before .enum-told2 .given .1))
 
 same-length : tie.Need-same-length
 same-length c = search needs
@@ -100,7 +100,7 @@ add-curve-spec =
     returns
     enum-told-2
     put-curve-requires
-    add-t12
-    add-t11
+    add-curves
+    add-next
     same-length
     returns-2)

@@ -5,8 +5,8 @@ use lib.ListN.{length}
 use denote.Ref.{now}
 use Rattle.field.specs.Steps.{after}
 use Rattle.content.specs.declared.Checked.the-variants.{Sound}
-use Rattle.writer.specs.Writing.{begin, fieldOf, argumentFault, callFault}
-use Rattle.writer.specs.Held.{version-size, room-after, fault-is, moved-by, refused-return, taken-return}
+use Rattle.writer.specs.Writing.{begin, fieldOf, argumentFault, callFault, passes}
+use Rattle.writer.specs.Held.{version-size, fault-is, moved-by, refused-return, taken-return}
 use borrow.Author.Needs.{needs}
 use Rattle.writer.proofs.calls.begin.Statement.{statement}
 use Rattle.writer.proofs.calls.begin.Tie as tie
@@ -18,7 +18,7 @@ fault c =
     ∙ fault-is (begin 1) (c .before .before .before .before .before .args .writer) (length (now (c .before .before .before .before .before .args .out))) 4 {a = Sound} (version-size 1) (c .before .before .order-fault .ensures) refl (c .before .room-fault .ensures)
 
 room : (c : tie.After-first) → c .first .result ≡ Sound → c .before .before .before .before .before .args .writer .state .place + length (fieldOf (begin 1)) ≤ length (now (c .before .before .before .before .before .args .out))
-room c is = room-after (c .before .before .before .before .before .args .writer) (length (now (c .before .before .before .before .before .args .out))) (begin 1) (sym (fault c) ∙ is)
+room c is = passes (c .before .before .before .before .before .args .writer) (length (now (c .before .before .before .before .before .args .out))) (begin 1) .0 (sym (fault c) ∙ is) .fits
 
 order-fault-requires : tie.Need-order-fault-requires
 order-fault-requires c κs = search needs
@@ -44,8 +44,8 @@ enum-told-2 c = search needs
 put-version-requires : tie.Need-put-version-requires
 put-version-requires c κs = let at = c .before .before .before in room at (c .before .enum-told2 .given .1)
 
-add-t9 : tie.Need-add-t9
-add-t9 c =
+add-next : tie.Need-add-next
+add-next c =
     let at = c .before .before .before .before .before .before in
     omega (arith, version-size 1, room at (c .before .before .before .before .enum-told2 .given .1))
 
@@ -70,6 +70,6 @@ begin-spec =
     returns
     enum-told-2
     put-version-requires
-    add-t9
+    add-next
     same-length
     returns-2)

@@ -5,8 +5,8 @@ use lib.ListN.{length}
 use denote.Ref.{now}
 use Rattle.field.specs.Steps.{after}
 use Rattle.content.specs.declared.Checked.the-variants.{Sound}
-use Rattle.writer.specs.Writing.{close, fieldOf, argumentFault, callFault}
-use Rattle.writer.specs.Held.{end-size, room-after, fault-is, moved-by, refused-return, taken-return}
+use Rattle.writer.specs.Writing.{close, fieldOf, argumentFault, callFault, passes}
+use Rattle.writer.specs.Held.{end-size, fault-is, moved-by, refused-return, taken-return}
 use borrow.Author.Needs.{needs}
 use Rattle.writer.proofs.calls.close.Statement.{statement}
 use Rattle.writer.proofs.calls.close.Tie as tie
@@ -18,7 +18,7 @@ fault c =
     ∙ fault-is (close) (c .before .before .before .before .before .args .writer) (length (now (c .before .before .before .before .before .args .out))) 3 {a = Sound} (end-size) (c .before .before .order-fault .ensures) refl (c .before .room-fault .ensures)
 
 room : (c : tie.After-first) → c .first .result ≡ Sound → c .before .before .before .before .before .args .writer .state .place + length (fieldOf (close)) ≤ length (now (c .before .before .before .before .before .args .out))
-room c is = room-after (c .before .before .before .before .before .args .writer) (length (now (c .before .before .before .before .before .args .out))) (close) (sym (fault c) ∙ is)
+room c is = passes (c .before .before .before .before .before .args .writer) (length (now (c .before .before .before .before .before .args .out))) (close) .0 (sym (fault c) ∙ is) .fits
 
 order-fault-requires : tie.Need-order-fault-requires
 order-fault-requires c κs = search needs
@@ -44,8 +44,8 @@ enum-told-2 c = search needs
 put-end-requires : tie.Need-put-end-requires
 put-end-requires c κs = let at = c .before .before .before in room at (c .before .enum-told2 .given .1)
 
-add-t9 : tie.Need-add-t9
-add-t9 c =
+add-next : tie.Need-add-next
+add-next c =
     let at = c .before .before .before .before .before .before in
     omega (arith, end-size, room at (c .before .before .before .before .enum-told2 .given .1))
 
@@ -70,6 +70,6 @@ close-spec =
     returns
     enum-told-2
     put-end-requires
-    add-t9
+    add-next
     same-length
     returns-2)
