@@ -26,8 +26,9 @@
    - The memory is lent for the call and stays the caller's: no pointer is kept, nothing is allocated, nothing is to be freed.
    - There is no state outside the arguments: the same input has the same answer, always. Calls may run at once in any number of
      threads, and may share a book to read; each has its own bytes to write.
-   - Stack: one call of judge takes at most 64,248 bytes, one of curve_value 4,320, and what memcpy and memset of the C library take beside
-     (bench/stack reads it off the machine code).
+   - Stack: one call of judge takes at most 65,928 bytes, one of curve_value 7,120, one of the others 56; beside that what memcpy and memset of
+     the C library take, and the 128 bytes below the stack pointer that are any function's on x86-64 (bench/stack reads it off the machine
+     code).
 
    The book, in short. Numbers stand high byte first. A field is a tag (1 byte), the length of its content (2 bytes) and the content.
    Fields stand in this order with nothing between them and nothing after:
@@ -65,7 +66,8 @@ extern "C" {
 #define ZURMAKIDA_MAX_VERDICT_BYTES (ZURMAKIDA_MAX_CLAIMS * ZURMAKIDA_RECORD_BYTES) /* room for the records of any book */
 #define ZURMAKIDA_MAX_TICK 2000000000 /* that curve_value takes */
 
-/* Why a book is refused. The place is that of the first byte of the first bad field, counted from 0, unless it says otherwise. */
+/* Why a book that is read is refused. The place is that of the first byte of the first bad field, counted from 0, unless it says otherwise.
+   Where a book is written the numbers are the same and have no place: see 'writing a book' below. */
 enum zurmakida_refusal_number {
     ZURMAKIDA_NOT_REFUSED = 0,
     ZURMAKIDA_REFUSED_RUNS_PAST = 1,      /* fewer than 3 bytes are left, or the content runs past the book */
@@ -81,7 +83,7 @@ enum zurmakida_refusal_number {
     ZURMAKIDA_REFUSED_NO_SUCH_CURVE = 11, /* claim: an id that names no curve. From curve_value also: no such curve, place 0 */
     ZURMAKIDA_REFUSED_TOO_LARGE = 12,     /* claim: X over 1,000,000,000. From curve_value also: tick over 2,000,000,000, place 0 */
     ZURMAKIDA_REFUSED_END = 13,           /* end: the length isn't 0, or a byte follows */
-    ZURMAKIDA_REFUSED_NO_ROOM = 14,       /* a sound book, but the lent buffer is under 21 bytes per claim; place 0. From judge only */
+    ZURMAKIDA_REFUSED_NO_ROOM = 14,       /* a sound book, but the lent buffer is under 21 bytes per claim; place 0. Not from curve_value */
     ZURMAKIDA_REFUSED_BOOK_TOO_LONG = 15  /* the book is over 32,768 bytes; place 0 */
 };
 
@@ -137,8 +139,8 @@ struct curve_value curve_value(const uint8_t *book, size_t book_length, uint64_t
 
    The refusals, in the order in which they are tried:
 
-        3  out of order: nothing begun, or begun already, or closed, or a curve after a claim. Also a state that no call has given: one with a
-           bit above bit 47, or with more than 32,768 bytes written. (Any other number is taken for the state that its bits say.)
+        3  out of order: nothing begun, or begun already, or closed, or a curve after a claim. Also a number that is no state: one with a bit
+           above bit 47, or with more than 32,768 bytes written. (Any other number is taken for the state that its bits say.)
         4  a 17th curve or a 257th claim
         7  curve: period 0, or rank + period over 256
         6  curve: the count of the values is not rank + period
@@ -155,7 +157,7 @@ struct book_call {
 
 #define ZURMAKIDA_MAX_WRITTEN_BYTES 19127 /* room for any book: 16 curves of 256 values and 256 claims */
 
-/* Begins a book: `state` is 0. */
+/* Begins a book, with state 0. */
 struct book_call book_begin(uint64_t state, uint8_t *book, size_t book_length);
 
 /* Adds a curve: rank T, period d, increment c and `count` values, f(0) to f(T+d-1). */

@@ -86,7 +86,7 @@ module _ (s : List ℕ) (at : ℕ) (t : List ℕ) where
 pub length-bytes : (w n : ℕ) → length (bytesOf w n) ≡ w
 unfolding bytesOf
 length-bytes zero n = refl
-length-bytes (suc w) n = length-append (bytesOf w (n / 256)) (n % 256 ∷ []) ∙ rw (length-bytes w (n / 256)) (add-one w)
+length-bytes (suc w) n = simp (length-append, length-bytes w (n / 256), add-one w)
 
 -- the last byte first, for a loop that goes down
 pub put-bytes : (s : List ℕ) (at w n : ℕ) → 0 < w → at + w ≤ length s

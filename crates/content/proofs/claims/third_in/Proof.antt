@@ -12,7 +12,7 @@ cast-result c = search needs
 
 returns : tie.Need-returns
 unfolding thirdWidth
-returns c = rw (lt-ltb _ _ (c .before .if1 .taken), thirdWidth) (c .number1 .ensures)
+returns c = rw (lt-ltb (c .before .before .before .args .kind) 4 (c .before .if1 .taken), thirdWidth) (c .number1 .ensures)
 
 number4-requires : tie.Need-number4-requires
 number4-requires c κs = search needs
@@ -22,7 +22,7 @@ cast-result-2 c = search needs
 
 returns-2 : tie.Need-returns-2
 unfolding thirdWidth
-returns-2 c = rw (le-ltb _ _ (c .before .if1 .left), thirdWidth) (c .number4 .ensures)
+returns-2 c = rw (le-ltb (c .before .before .before .args .kind) 4 (c .before .if1 .left), thirdWidth) (c .number4 .ensures)
 
 pub third-in-spec : {M : Type 1} → statement M
 third-in-spec =

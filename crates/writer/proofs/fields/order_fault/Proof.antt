@@ -1,3 +1,5 @@
+use mathlib.Core.Path.{_≡_}
+use mathlib.Core.Bool.{true}
 use Rattle.writer.specs.Writing.{orderFault}
 use borrow.Author.Needs.{needs}
 use Rattle.writer.proofs.fields.order_fault.Statement.{statement}
@@ -5,7 +7,7 @@ use Rattle.writer.proofs.fields.order_fault.Tie as tie
 
 returns : tie.Need-returns
 unfolding orderFault
-returns c = rw (c .if1 .taken)
+returns c = let shut : c .before .before .args .writer .closed ≡ true = c .if1 .taken in rw shut
 
 in-order-requires : tie.Need-in-order-requires
 in-order-requires c κs = search needs
