@@ -7,7 +7,6 @@ use book::Book;
 use content::Checked;
 use content::Refusal;
 use curve::Curve;
-use field::State;
 use field::places::curve_at;
 use writer::Called;
 use writer::Writer;
@@ -57,21 +56,8 @@ fn call(bytes: &[u8], book: Book, n: usize, writer: Writer, out: &mut [u8]) -> C
     }
 }
 
-// Where a writer stands before it has begun.
-fn fresh() -> Writer {
-    Writer {
-        state: State {
-            version: 0,
-            curves: 0,
-            claims: 0,
-            place: 0,
-        },
-        closed: false,
-    }
-}
-
 pub(crate) fn write(bytes: &[u8], book: Book, out: &mut [u8]) -> Writing {
-    let mut writer = fresh();
+    let mut writer = Writer::new();
     let mut n: usize = 0;
     while n < MOST_FIELDS {
         if writer.closed {

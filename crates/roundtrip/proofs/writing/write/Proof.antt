@@ -12,8 +12,8 @@ Inv-loop bytes book out₀ writer₀ n₀ out writer n = length out ≡ length o
 abbrev μ-loop : tie.MeasureT-loop
 μ-loop bytes book out₀ writer₀ n₀ out writer n = 274 - n
 
-fresh-requires : tie.Need-fresh-requires Inv-loop μ-loop
-fresh-requires c κs = tt
+new-requires : tie.Need-new-requires Inv-loop μ-loop
+new-requires c κs = tt
 
 loop-holds : tie.Need-loop-holds Inv-loop μ-loop
 loop-holds c = refl
@@ -54,7 +54,7 @@ write-spec =
     (tie.spec
     Inv-loop
     μ-loop
-    fresh-requires
+    new-requires
     loop-holds
     call-requires
     enum-known-checked
