@@ -6,7 +6,7 @@
 
 use crate::book::{join, read, Book, Field, END, MOST_CLAIMS, MOST_CURVES};
 use crate::calls::{sequences, Sequence, Step};
-use crate::check::{take, take_number};
+use crate::check::{finished, take, take_number};
 use crate::text::hex;
 use crate::writer::{call, faults, faults_of, Call, Fault, State, NAMES};
 use std::collections::BTreeMap;
@@ -233,15 +233,7 @@ impl Seen {
     }
 
     fn finish(self) -> Result<String, String> {
-        let missing = self.missing();
-        let mut text = self.summary();
-        if missing.is_empty() {
-            return Ok(text);
-        }
-        for m in missing {
-            text += &format!("not seen: {m}\n");
-        }
-        Err(text)
+        finished(self.summary(), self.missing())
     }
 
     fn missing(&self) -> Vec<String> {

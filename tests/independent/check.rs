@@ -197,15 +197,7 @@ impl Seen {
     }
 
     fn finish(self) -> Result<String, String> {
-        let missing = self.missing();
-        let mut text = self.summary();
-        if missing.is_empty() {
-            return Ok(text);
-        }
-        for m in missing {
-            text += &format!("not seen: {m}\n");
-        }
-        Err(text)
+        finished(self.summary(), self.missing())
     }
 
     fn missing(&self) -> Vec<String> {
@@ -284,4 +276,15 @@ impl Seen {
             bad.map(|(_, n)| n).sum::<u64>()
         )
     }
+}
+
+/// A run's summary: as an error, with what it should have met and did not, where there is such.
+pub fn finished(mut text: String, missing: Vec<String>) -> Result<String, String> {
+    if missing.is_empty() {
+        return Ok(text);
+    }
+    for m in missing {
+        text += &format!("not seen: {m}\n");
+    }
+    Err(text)
 }

@@ -15,7 +15,7 @@ use native.Mathlib.Omega.{arith}
 use lib.ListN.{length, take, drop, length-append, length-map}
 use lib.Seq.{drop-at, drop-drop, take-all, take-length}
 use lib.Dec.{ltb, eqb}
-use borrow.Author.Tests.{eqb-true, eqb-false, not-true, le-ltb, lt-leb, ne-eqb}
+use borrow.Author.Tests.{eqb-true, eqb-false, not-true, le-ltb, lt-leb}
 use Rattle.minplus.specs.Search.{both-true}
 use Rattle.minplus.specs.Curve.{Curve, WellFormed}
 use Rattle.curve.specs.Filled.{listOf}

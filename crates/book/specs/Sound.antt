@@ -15,18 +15,18 @@ use native.Mathlib.Nat.{eq-or-lt-of-le}
 use lib.ListN.{length, getD, length-append, List·getD-append}
 use lib.Seq.{getD-at}
 use lib.Dec.{ltb, eqb}
-use borrow.Author.Tests.{leb-false, eqb-true, eqb-false, not-true, not-false, ltb-false}
+use borrow.Author.Tests.{leb-false, eqb-true, eqb-false, not-true, ltb-false}
 use Rattle.minplus.specs.Search.{both-true}
 use Rattle.content.specs.declared.Refusal.{Refusal}
-use Rattle.content.specs.declared.Refusal.the-variants.{BookTooLong, WrongVersion}
+use Rattle.content.specs.declared.Refusal.the-variants.{BookTooLong}
 use Rattle.content.specs.declared.Checked.the-variants.{Sound, Refused}
 use Rattle.field.specs.declared.Tag.the-variants as tag
 use Rattle.field.specs.declared.State.{State}
 use Rattle.field.specs.declared.Field.{Field}
 use Rattle.field.specs.declared.Field.the-variants as field
-use Rattle.field.specs.Fields.{contentAt, versionIn}
-use Rattle.content.specs.Refusals.{on, curveFault, claimFault, on-sound}
-use Rattle.field.specs.Steps.{maxCurves, maxClaims, isVersion, versionFault, contentFault, inOrder, full, after, stepAt, takes, refused-at, next-inside}
+use Rattle.field.specs.Fields.{contentAt}
+use Rattle.content.specs.Refusals.{curveFault, claimFault}
+use Rattle.field.specs.Steps.{maxCurves, maxClaims, isVersion, contentFault, inOrder, full, after, stepAt, takes, refused-at, next-inside}
 use Rattle.field.specs.Back.{version-sound}
 use Rattle.book.specs.Reading.{Contents, Read, sound, refused, maxBytes, start, readOn, readFrom, readBook}
 

@@ -5,7 +5,7 @@
 --     claim-unknown, claim-far, claim-named     `stated`, by what `Claim::new` says of kind and X
 --     statement-fault, claim-fault     the refusals, from what is stated
 use Prim.Native.Nat.{ℕ}
-use mathlib.Core.Path.{_≡_, refl, ap, _∙_}
+use mathlib.Core.Path.{_≡_, refl, ap}
 use mathlib.Core.Bool.{Bool, true, false, not}
 use mathlib.Core.List.{List}
 use mathlib.Core.Option.{Option, none, some}

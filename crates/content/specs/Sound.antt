@@ -5,27 +5,27 @@
 --     claim-sound           a claim's content that is not refused has the length of its kind, and is such a claim
 --     Stands                a claim's content states a claim of curves that the book has, with an X within its limit (claim-stands)
 use Prim.Native.Nat.{ℕ, suc, _*_, _+_, _-_, _≤_, _<_}
-use mathlib.Core.Path.{_≡_, refl, sym, ap, _∙_}
+use mathlib.Core.Path.{_≡_, refl, ap, _∙_}
 use mathlib.Core.Bool.{Bool, true, false, _||_, not}
 use mathlib.Core.Option.{Option, none, some}
 use mathlib.Core.List.{List}
 use mathlib.Core.Logic.{_↔_}
 use native.Mathlib.Omega.{arith}
-use lib.ListN.{length, getD}
+use lib.ListN.{length}
 use lib.Dec.{leb, ltb, eqb}
 use borrow.Author.Tests.{leb-true, leb-false, ltb-false, eqb-false, eqb-true, not-false, le-leb, lt-leb, le-ltb, ne-eqb, eq-eqb}
 use Rattle.minplus.specs.Search.{all-below}
 use Rattle.minplus.specs.Claim.{Kind, result, bound, kindBy, sum, minimum, convolution, delay, backlog, atMost, exactly, maxX}
 use Rattle.minplus.specs.Curve.{Curve, WellFormed, count, listedAt, maxListed, maxUnits}
 use Rattle.curve.specs.Kinds.{claimWith, xOf}
-use Rattle.curve.specs.Filled.{listOf, length-listOf}
+use Rattle.curve.specs.Filled.{length-listOf}
 use Rattle.content.specs.declared.Refusal.the-variants.{CurveLength, CurvePeriod, TooManyUnits, CurveFalls, WrongClaim, NoSuchCurve, TooLarge}
 use Rattle.content.specs.declared.Checked.{Checked}
 use Rattle.content.specs.declared.Checked.the-variants.{Sound, Refused}
 use Rattle.content.specs.declared.Stated.{Stated}
 use Rattle.content.specs.declared.ClaimField.the-variants as claim-field
 use Rattle.content.specs.Layout.{rankIn, periodIn, countIn, curveHead, valueIn, curveIn, Statement, claimIn, claimLength}
-use Rattle.content.specs.Refusals.{on, noSpan, valuesFit, valuesRise, limitFault, listedFault, curveFault, noneNamed, lastId, farX, kindFault, statementFault, claimFault, claimedOf, statedOf, statedOr, stated, statementField, claimField, on-sound, or-false, claim-whole}
+use Rattle.content.specs.Refusals.{noSpan, valuesFit, valuesRise, limitFault, listedFault, curveFault, noneNamed, lastId, farX, kindFault, statementFault, claimFault, claimedOf, statedOf, statedOr, stated, statementField, claimField, on-sound, or-false, claim-whole}
 
 -- ---- curves
 

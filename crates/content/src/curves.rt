@@ -13,7 +13,7 @@ use numbers::number2;
 use numbers::number4;
 
 // How many bytes stand before the values.
-pub const HEAD: usize = 8;
+const HEAD: usize = 8;
 
 // d = 0 or T+d > 256, of numbers of any size.
 fn no_span(rank: u64, period: u64) -> bool

@@ -16,7 +16,7 @@ use numbers::number1;
 use numbers::number2;
 
 // Tag and length.
-pub const HEAD: usize = 3;
+const HEAD: usize = 3;
 
 fn tag_by(byte: u8) -> Tagged
     ensures { λ r. ⌜ r ≡ tagBy byte ⌝ }

@@ -5,9 +5,9 @@
 --     verdict-given              the verdict on a well-formed claim
 --     Runs s book b              what the loop is given: a sound book as it is held, and a buffer with room for its records
 --     Written s b out totals k     where it stands after k claims; written-none, written-more: as it begins, and after one more
-use Prim.Native.Nat.{ℕ, zero, suc, _+_, _*_, _≤_, _<_}
+use Prim.Native.Nat.{ℕ, _+_, _*_, _≤_, _<_}
 use mathlib.Core.Path.{_≡_, refl, sym, ap, subst, _∙_}
-use mathlib.Core.List.{List, []}
+use mathlib.Core.List.{List}
 use mathlib.Core.Option.{Option, none, some}
 use native.Mathlib.Omega.{arith}
 use lib.ListN.{length, getD}

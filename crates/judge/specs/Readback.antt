@@ -3,17 +3,17 @@
 --     Fits                a record whose numbers fit their bytes: of a well-formed claim it is one (record-fits)
 --     number-middle       a number that stands in the middle of a list
 --     records-back        record k of the buffer is the record that was written there
-use Prim.Native.Nat.{ℕ, zero, suc, _+_, _*_, _^_, _≤_, _<_, min}
-use mathlib.Core.Path.{_≡_, refl, sym, ap, _∙_}
+use Prim.Native.Nat.{ℕ, zero, suc, _+_, _*_, _^_, _≤_, _<_}
+use mathlib.Core.Path.{_≡_, refl, ap, _∙_}
 use mathlib.Core.List.{List, [], _++_, append-assoc, append-nil}
 use mathlib.Core.Logic.{_⊎_, inl, inr}
 use native.Mathlib.Omega.{arith}
 use native.Mathlib.Nat.{eq-or-lt-of-le, le-of-suc-le-suc}
 use lib.ListN.{length, take, drop, length-append}
 use lib.Seq.{take-at, drop-at}
-use Rattle.minplus.specs.Curve.{Curve, WellFormed, value, value-at-most}
-use Rattle.minplus.specs.Claim.{Claim, Operation, Deviation, WellFormedClaim, equals, bounds, sum, minimum, convolution, delay, backlog, due, allowed}
-use Rattle.minplus.specs.Conv.{conv, conv-below}
+use Rattle.minplus.specs.Curve.{value, value-at-most}
+use Rattle.minplus.specs.Claim.{Claim, WellFormedClaim, equals, bounds, sum, minimum, convolution, delay, backlog, due, allowed}
+use Rattle.minplus.specs.Conv.{conv-below}
 use Rattle.minplus.specs.Horizon.{horizon, maxHorizon}
 use Rattle.minplus.specs.Verdict.{Record, Verdict, accepted, refutedAt, refutedByRate, notLeast, notJudged, recordOf, verdict, leftAt, rightAt, tried}
 use Rattle.minplus.specs.Meaning.{Meaning, well-formed-proper}

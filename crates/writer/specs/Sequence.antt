@@ -18,22 +18,21 @@ use Prim.Native.Nat.{ℕ, _+_, _≤_, _<_}
 use mathlib.Core.Path.{_≡_, refl, sym, ap, subst, subst₂, _∙_}
 use mathlib.Core.Bool.{Bool, true, false, not, true≢false}
 use mathlib.Core.List.{List, [], _∷_, _++_, map, flatMap, append-nil, append-assoc}
-use mathlib.Core.Logic.{_↔_}
 use mathlib.Mathlib.Data.List.Defs.{Forall}
 use mathlib.Mathlib.Data.List.Basic.{forall-cons}
 use native.Mathlib.Omega.{arith}
 use native.Mathlib.Nat.{zero-add}
 use lib.ListN.{length, take, drop, replicate, length-append}
 use lib.Seq.{take-at, take-all}
-use lib.Dec.{ltb, eqb}
-use borrow.Author.Tests.{ltb-false, leb-false, eqb-true, not-false, le-ltb, lt-leb, ne-eqb}
+use lib.Dec.{eqb}
+use borrow.Author.Tests.{leb-false, eqb-true, not-false, lt-leb}
 use Rattle.minplus.specs.Search.{both-true}
 use Rattle.minplus.specs.Curve.{Curve, WellFormed}
 use Rattle.minplus.specs.Claim.{kindBy}
 use Rattle.numbers.specs.Put.{put, bytesOf, put-nothing, length-put, drop-put, put-put}
 use Rattle.numbers.specs.Back.{Bytes, bytes-take}
 use Rattle.content.specs.declared.Refusal.{Refusal}
-use Rattle.content.specs.declared.Refusal.the-variants.{OutOfOrder, TooMany, WrongVersion, NoRoom}
+use Rattle.content.specs.declared.Refusal.the-variants.{OutOfOrder, WrongVersion}
 use Rattle.content.specs.declared.Checked.{Checked}
 use Rattle.content.specs.declared.Checked.the-variants.{Sound, Refused}
 use Rattle.content.specs.Layout.{Statement}
@@ -50,7 +49,7 @@ use Rattle.book.specs.Listing.{Listing, curveFields, claimFields, openBytes, bo
 use Rattle.book.specs.RoundTrip.{written-read, read-written, read-well, w8-listing, w8-written, w8-well}
 use Rattle.writer.specs.declared.Writer.{Writer}
 use Rattle.writer.specs.declared.Called.{Called}
-use Rattle.writer.specs.Writing.{Call, begin, addCurve, addClaim, close, tagOf, contentOf, fieldOf, fresh, first, orderFault, argumentFault, roomFault, callFault, versionOf, closes, movedBy, called, written, Passes, passes, call-refused, call-taken}
+use Rattle.writer.specs.Writing.{Call, begin, addCurve, addClaim, close, tagOf, contentOf, fieldOf, fresh, orderFault, argumentFault, callFault, versionOf, closes, movedBy, called, written, Passes, passes, call-refused, call-taken}
 
 pub record Desk : Type 0 where
   pub writer : Writer

@@ -28,7 +28,6 @@ use Rattle.content.specs.Layout.{curveBytes, Statement, claimBytes}
 use Rattle.content.specs.Refusals.{on, listedFault, statementFault, on-sound}
 use Rattle.field.specs.declared.Tag.{Tag}
 use Rattle.field.specs.declared.Tag.the-variants as tag
-use Rattle.field.specs.declared.State.{State}
 use Rattle.field.specs.Fields.{fieldBytes}
 use Rattle.field.specs.Steps.{isVersion, inOrder, full, after}
 use Rattle.writer.specs.declared.Writer.{Writer}

@@ -7,7 +7,7 @@
 --     w8-held          W8 from state 0 by its five calls: a closed state with 59 bytes written
 use Prim.Native.Nat.{ℕ, _+_, _*_, _%_, _^_, _≤_, _<_}
 use mathlib.Core.Path.{_≡_, refl, sym, ap, ap₂, subst, _∙_}
-use mathlib.Core.Bool.{Bool, true, false}
+use mathlib.Core.Bool.{Bool, true}
 use mathlib.Core.List.{List, [], _∷_}
 use native.Mathlib.Omega.{arith}
 use lib.ListN.{length, take, replicate}
@@ -17,14 +17,13 @@ use Rattle.content.specs.declared.Checked.{Checked}
 use Rattle.content.specs.declared.Checked.the-variants.{Sound, Refused}
 use Rattle.field.specs.Steps.{maxCurves, maxClaims}
 use Rattle.field.specs.Back.{version-fits}
-use Rattle.book.specs.Listing.{Listing, WellListed, begun}
+use Rattle.book.specs.Listing.{Listing}
 use Rattle.book.specs.RoundTrip.{w8-listing}
 use Rattle.writer.specs.declared.Writer.{Writer}
 use Rattle.writer.specs.declared.Called.{Called}
 use Rattle.writer.specs.Writing.{Call, callFault, called, written, call-refused, call-taken}
-use Rattle.writer.specs.Sequence.{Desk, step, afterCalls, opened, reached, textIn, Says, Stage, untouched, unfinished, finished, Written, any-calls, closed-sound, callsFor}
-use Rattle.zurmakida.specs.declared.BookCall.{BookCall}
-use Rattle.zurmakida.specs.States.{stateOf, writerOf, answered, answeredOn, Kept, state-back, fresh-back}
+use Rattle.writer.specs.Sequence.{Desk, step, afterCalls, opened, reached, Says, Stage, untouched, unfinished, finished, Written, any-calls, closed-sound, callsFor}
+use Rattle.zurmakida.specs.States.{writerOf, answered, answeredOn, Kept, state-back, fresh-back}
 
 pub record Held : Type 0 where
   pub state : ℕ

@@ -1,6 +1,4 @@
-use Prim.Native.Nat.{ℕ}
 use mathlib.Core.Path.{_≡_, sym, ap, _∙_}
-use mathlib.Core.Bool.{Bool}
 use Rattle.minplus.specs.Claim.{kindBy}
 use Rattle.curve.specs.Kinds.{namedAs, namedBy}
 use Rattle.content.specs.Layout.{Statement}

@@ -1,5 +1,3 @@
-use mathlib.Core.Path.{sym, _∙_}
-use native.Mathlib.Omega.{arith}
 use borrow.Author.Tests.{lt-ltb, le-ltb}
 use Rattle.minplus.specs.Curve.{maxUnits}
 use Rattle.content.specs.Refusals.{limitFault}

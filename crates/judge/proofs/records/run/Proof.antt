@@ -1,5 +1,4 @@
 use Prim.Native.Nat.{_-_}
-use mathlib.Core.Path.{_≡_}
 use native.Mathlib.Omega.{arith}
 use Rattle.judge.specs.Held.{Written, claims-few, countable, length-written, stands-held, record-room, written-none, written-more, written-all}
 use borrow.Author.Needs.{needs}

@@ -1,5 +1,4 @@
 -- `verdict::search::first_in` meets its contract: the three tables hold the curves' values, and so the search in them finds the claim's first break.
-use native.Mathlib.Omega.{arith}
 use borrow.Author.Needs.{needs}
 use denote.Ref.{now}
 use Rattle.verdict.proofs.Tables.{judged-break, judged-searchable}

@@ -1,5 +1,4 @@
 use denote.Ref.{now}
-use mathlib.Core.Path.{ap, _∙_}
 use native.Mathlib.Omega.{arith}
 use Rattle.content.specs.Layout.{third-small}
 use Rattle.writer.specs.Held.{claim-size, claim-put}

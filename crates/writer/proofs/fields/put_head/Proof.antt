@@ -1,5 +1,4 @@
 use denote.Ref.{now}
-use mathlib.Core.Path.{ap, _∙_}
 use Rattle.writer.specs.Held.{head-put}
 use borrow.Author.Needs.{needs}
 use Rattle.writer.proofs.fields.put_head.Statement.{statement}
