@@ -4,7 +4,7 @@
 --     version-put, curve-put, claim-put, end-put     a whole field, from what each step left
 --     version-size, curve-size, claim-size, end-size     how many bytes it has
 --     Filling              the values of a curve, as far as they are written: filling-none, filling-more, filling-all
---     fault-is, moved-by   the tests and the new state, part by part; refused-return, taken-return: what is returned then
+--     fault-is, moved-by   the tests and the new state, by the field's size; refused-return, taken-return: what is returned then
 use Prim.Native.Nat.{ℕ, _+_, _*_, _≤_, _<_}
 use mathlib.Core.Path.{_≡_, refl, sym, ap, ap₂, subst, _∙_}
 use mathlib.Core.Bool.{Bool, true, false}
@@ -168,11 +168,10 @@ module _ {s : List ℕ} {at : ℕ} {values : List ℕ} {n : ℕ} {s′ : List �
 -- ---- what a call returns
 
 module _ (call : Call) (w : Writer) where
-  -- the tests, one by one
-  pub fault-is : (room size : ℕ) {o a r : Checked} → length (fieldOf call) ≡ size → o ≡ orderFault w (tagOf call) → a ≡ argumentFault (w .state .curves) call
-      → r ≡ roomFault room (w .state .place) size → first o (first a r) ≡ callFault w room call
+  pub fault-is : (room size : ℕ) {a : Checked} → length (fieldOf call) ≡ size → a ≡ argumentFault (w .state .curves) call
+      → first (orderFault w (tagOf call)) (first a (roomFault room (w .state .place) size)) ≡ callFault w room call
   unfolding callFault
-  fault-is room size long e₁ e₂ e₃ = rw (e₁, e₂, e₃, long)
+  fault-is room size long e = rw (e, long)
 
   pub moved-by : (size : ℕ) → length (fieldOf call) ≡ size
       → _≡_ {A = Writer} (record { state = after (tagOf call) (w .state) (versionOf call) (w .state .place + size); closed = closes call }) (movedBy call w)

@@ -3,13 +3,11 @@ ghost use mathlib.Core.Path.{_≡_};
 ghost use Rattle.writer.specs.Writing.{begin, addCurve, addClaim, close, called, written};
 use crate::Called;
 use crate::Writer;
-use crate::fields::first;
-use crate::fields::order_fault;
+use crate::fields::admitted;
 use crate::fields::put_claim;
 use crate::fields::put_curve;
 use crate::fields::put_end;
 use crate::fields::put_version;
-use crate::fields::room_fault;
 use content::Checked;
 use content::claims::statement_fault;
 use content::claims::third_width;
@@ -26,9 +24,7 @@ pub fn begin(writer: Writer, out: &mut [u8]) -> Called
 {
     let state = writer.state;
     let place = state.place;
-    let order = order_fault(writer, Tag::Version);
-    let room = room_fault(out.len(), place, 4);
-    let checked = first(order, room);
+    let checked = admitted(writer, Tag::Version, Checked::Sound, out.len(), 4);
     if let Checked::Refused(_) = checked {
         return Called { checked, writer }; // not begun
     }
@@ -63,10 +59,8 @@ pub fn add_curve(
     let state = writer.state;
     let place = state.place;
     let size = 11 + 4 * values.len();
-    let order = order_fault(writer, Tag::Curve);
     let curve = listed_fault(rank, period, increment, values);
-    let room = room_fault(out.len(), place, size);
-    let checked = first(order, first(curve, room));
+    let checked = admitted(writer, Tag::Curve, curve, out.len(), size);
     if let Checked::Refused(_) = checked {
         return Called { checked, writer }; // the curve is not counted
     }
@@ -102,10 +96,8 @@ pub fn add_claim(
     let state = writer.state;
     let place = state.place;
     let size = 6 + third_width(kind);
-    let order = order_fault(writer, Tag::Claim);
     let claim = statement_fault(kind, left, right, third, state.curves);
-    let room = room_fault(out.len(), place, size);
-    let checked = first(order, first(claim, room));
+    let checked = admitted(writer, Tag::Claim, claim, out.len(), size);
     if let Checked::Refused(_) = checked {
         return Called { checked, writer }; // the claim is not counted
     }
@@ -132,10 +124,7 @@ pub fn close(writer: Writer, out: &mut [u8]) -> Called
 {
     let state = writer.state;
     let place = state.place;
-    let checked = first(
-        order_fault(writer, Tag::End),
-        room_fault(out.len(), place, 3),
-    );
+    let checked = admitted(writer, Tag::End, Checked::Sound, out.len(), 3);
     if let Checked::Refused(_) = checked {
         return Called { checked, writer }; // not closed
     }

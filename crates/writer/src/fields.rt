@@ -17,7 +17,7 @@ use field::steps::in_order;
 use numbers::put;
 
 // A field of this tag has its turn, and there are not too many of them.
-pub(crate) fn order_fault(writer: Writer, tag: Tag) -> Checked
+fn order_fault(writer: Writer, tag: Tag) -> Checked
     ensures { λ r. ⌜ r ≡ orderFault writer tag ⌝ }
 {
     let state = writer.state;
@@ -35,7 +35,7 @@ pub(crate) fn order_fault(writer: Writer, tag: Tag) -> Checked
 }
 
 // So many bytes from a place on have room.
-pub(crate) fn room_fault(room: usize, place: usize, size: usize) -> Checked
+fn room_fault(room: usize, place: usize, size: usize) -> Checked
     ensures { λ r. ⌜ r ≡ roomFault room place size ⌝ }
 {
     if room < size {
@@ -47,13 +47,29 @@ pub(crate) fn room_fault(room: usize, place: usize, size: usize) -> Checked
     Checked::Sound
 }
 
-pub(crate) fn first(fault: Checked, later: Checked) -> Checked
+fn first(fault: Checked, later: Checked) -> Checked
     ensures { λ r. ⌜ r ≡ first fault later ⌝ }
 {
     match fault {
         Checked::Refused(refusal) => Checked::Refused(refusal),
         Checked::Sound => later,
     }
+}
+
+// Document 01's order: a field's turn and count, then what is said of its arguments, and last its room. All are looked at, and the first refusal counts.
+pub(crate) fn admitted(
+    writer: Writer,
+    tag: Tag,
+    argument: Checked,
+    length: usize,
+    size: usize,
+) -> Checked
+    ensures { λ r. ⌜ r ≡ first (orderFault writer tag) (first argument (roomFault length (writer .state .place) size)) ⌝ }
+{
+    let state = writer.state;
+    let order = order_fault(writer, tag);
+    let room = room_fault(length, state.place, size);
+    first(order, first(argument, room))
 }
 
 // Tag and length.
