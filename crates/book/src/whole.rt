@@ -11,7 +11,7 @@ use content::Refusal;
 use field::Field;
 use field::State;
 use field::Tag;
-use field::steps::step;
+use field::reader::step;
 
 fn no_places() -> Places
     ensures { λ r. ⌜ r ≡ placesOf [] [] ⌝ }

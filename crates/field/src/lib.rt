@@ -4,6 +4,7 @@ ghost use Rattle.field.specs.Fields.{tagNumber};
 use content::Refusal;
 
 pub mod places;
+pub mod reader;
 pub mod steps;
 
 // The four fields.

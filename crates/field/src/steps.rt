@@ -177,8 +177,8 @@ fn after(tag: Tag, state: State, version: u8, place: usize) -> State
     }
 }
 
-// A step over the field at the state's place. Whoever reads a book, in whatever way, goes by these steps.
-pub fn step(book: &[u8], state: State) -> Field
+// The field at the state's place. Whoever reads a book calls it through a reader.
+pub(crate) fn field_at(book: &[u8], state: State) -> Field
     ensures { λ r. ⌜ r ≡ stepAt (now (book .entry)) state ⌝ }
 {
     let place = state.place;

@@ -12,8 +12,8 @@ use Rattle.field.specs.Fields.{tagOf, lengthOf, contentOf, versionIn}
 use Rattle.content.specs.declared.Checked.{Checked}
 use Rattle.field.specs.declared.State.{State}
 use Rattle.field.specs.declared.Tag.{Tag}
-use Rattle.field.proofs.steps.step.Statement.{statement}
-use Rattle.field.proofs.steps.step.Tie as tie
+use Rattle.field.proofs.steps.field_at.Statement.{statement}
+use Rattle.field.proofs.steps.field_at.Tie as tie
 use borrow.Author.Needs.{needs}
 
 rest-of-requires : tie.Need-rest-of-requires
@@ -131,8 +131,8 @@ returns-4 c =
     ap (Taken (tag at)) (c .after .ensures ∙ ap₂ (after (tag at) (state place)) version next)
     ∙ sym (on-fault at ∙ ap (λ (y : Checked). answer y (tag at) (state place) (rest place)) (c .before .before .before .before .enum-told2 .given .1))
 
-pub step-spec : {M : Type 1} → statement M
-step-spec =
+pub field-at-spec : {M : Type 1} → statement M
+field-at-spec =
     tie.close
     (tie.spec
     rest-of-requires
