@@ -13,7 +13,7 @@ pub struct Reader<'a> {
 
 impl<'a> Reader<'a> {
     pub fn at(book: &'a [u8], state: State) -> Reader<'a>
-        ensures { λ r. ⌜ (r .book ≡ book .entry) × (r .state ≡ state) ⌝ }
+        ensures { λ r. ⌜ r ≡ record { book = book .entry; state = state } ⌝ }
     {
         Reader { book, state }
     }

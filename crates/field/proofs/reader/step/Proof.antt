@@ -1,6 +1,6 @@
 -- `field::reader::step` meets its contract: a walk of its MIR, by hand. The reader that `Reader::at` returns is held in a local and passed to `Reader::next`. All that the proof knows of the two is that each meets its contract.
 -- The machine value that `at` returns is stored and passed on as it is. In a local of a body MIR erases the lifetime of the reader's type, so the value is shown to have the type at `erased`: what the reader owns does not say the lifetime's name.
-use mathlib.Core.Path.{_≡_, refl, ap₂, _∙_}
+use mathlib.Core.Path.{_≡_, refl, ap, _∙_}
 use Prim.Native.Nat.{ℕ}
 use mathlib.Core.List.{List, [], _∷_}
 use lib.ListN.{length}
@@ -106,6 +106,9 @@ module _ {M : Type 1} (𝓤 : URA M) (H : Heap 𝓤) (A : Atoms 𝓤) (W : Given
   abbrev Owns : Fml
   Owns = owns Rs (s, (st, tt)) passed
 
+  abbrev made : Reader
+  made = record { book = s; state = st }
+
   -- the call of `at`: what it is passed, what it asks, and what is known of its result
   abbrev to-at : At 𝓤 H A mem run .Ghost
   to-at = ((κs, (q, tt), tt, (s, (st, tt)), passed), tt)
@@ -116,8 +119,8 @@ module _ {M : Type 1} (𝓤 : URA M) (H : Heap 𝓤) (A : Atoms 𝓤) (W : Given
       move ! (1 ∷ []) $ use1 W (‵ Owns ⊛ ‵ Owns) (twices 𝓤 H A W Rs (shr-slice-copy 𝓤 H A W (named 0) κ u8, (LL.copy S.the-type S′.the-copy 𝓤 H A W, tt)) (s, (st, tt)) passed) $ split ! $
       move ! (2 ∷ 0 ∷ []) $ use2 W (raw (At 𝓤 H A mem run .pre to-at)) (qed W ((‵ (flft κ q) ⊛ ‵ ftrue) ∷ ‵ Owns ∷ []) ∵ join ! $ frame ! $ done !) $ frame ! $ done !
 
-  at-said : (r : Reader) → ent 𝓤 (ensured 𝓤 H A at.ended (at.clauses 𝓤 H A mem run) κs (s, (st, tt)) tt r) (fact 𝓤 ((r .book ≡ s) × (r .state ≡ st)))
-  at-said r = exE 𝓤 _ (λ ws. snd∗ 𝓤 (sem 𝓤 H A (lasts at.ended κs (s, (st, tt)) ws)) (fact 𝓤 ((r .book ≡ s) × (r .state ≡ st))))
+  at-said : (r : Reader) → ent 𝓤 (ensured 𝓤 H A at.ended (at.clauses 𝓤 H A mem run) κs (s, (st, tt)) tt r) (fact 𝓤 (r ≡ made))
+  at-said r = exE 𝓤 _ (λ ws. snd∗ 𝓤 (sem 𝓤 H A (lasts at.ended κs (s, (st, tt)) ws)) (fact 𝓤 (r ≡ made)))
 
   -- the call of `next`, at the reader r with the machine value u
   abbrev to-next : Reader → Val → Next 𝓤 H A mem run .Ghost
@@ -145,7 +148,7 @@ module _ {M : Type 1} (𝓤 : URA M) (H : Heap 𝓤) (A : Atoms 𝓤) (W : Given
         move ! (8 ∷ []) $ use1 W (raw (At 𝓤 H A mem run .pre to-at) ⊛ ‵ Owns) goes-at $ split ! $
         calls-at ! fm (At 𝓤 H A mem run) known-at to-at (and-then ! (load ! (from ! (stop !)) (look ! 6 refl)) (and-then ! (load ! (from ! (stop !)) (look ! 4 refl)) (no-more !))) (λ u.
         use1 W (later (some (λ (r : Reader). ((‵ (flft κ q) ⊛ ‵ ftrue) ⊛ ‵ (B κs .own r (u ∷ []))) ⊛ raw (ensured 𝓤 H A at.ended (at.clauses 𝓤 H A mem run) κs (s, (st, tt)) tt r)))) (id⊢ 𝓤 _) $ await ! tt $ pick ! (λ r.
-        split ! $ move ! (1 ∷ []) $ use1 W (raw (fact 𝓤 ((r .book ≡ s) × (r .state ≡ st)))) (at-said r) $ heard ! ((r .book ≡ s) × (r .state ≡ st)) (λ e. split ! $ move ! (1 ∷ []) $
+        split ! $ move ! (1 ∷ []) $ use1 W (raw (fact 𝓤 (r ≡ made))) (at-said r) $ heard ! (r ≡ made) (λ e. split ! $ move ! (1 ∷ []) $
         -- [what the reader owns; the token; what the parameters own; room for _3; …; _2; …; _1; …; room for _0; …]
         peeks ! (B κs) (Is (B κs)) (shows 𝓤 H A (B κs)) r (u ∷ []) (λ is.
         land ! (from ! (stop !)) (init ! 3 refl (LL.lawful (T.the-type αᵉ) (T′.the-laws αᵉ) 𝓤 H A W .typed r _ is .0)) $
@@ -158,7 +161,7 @@ module _ {M : Type 1} (𝓤 : URA M) (H : Heap 𝓤) (A : Atoms 𝓤) (W : Given
         land ! (from ! (stop !)) (init ! 9 refl (EL.lawful F.the-type F′.the-laws 𝓤 H A W tt .typed f _ is′ .0)) $
         returns ! (look ! 9 refl) $ forget ! 3 refl $ forget ! 5 refl $ forget ! 7 refl $ forget ! 9 refl $
         move ! (9 ∷ 10 ∷ []) $ free1 ! $ move ! (7 ∷ 8 ∷ []) $ free1 ! $ move ! (5 ∷ 6 ∷ []) $ free1 ! $ move ! (3 ∷ 4 ∷ []) $ free1 ! $ free0 ! $
-        by ! (exits f u′ (e′ ∙ ap₂ (λ (x : RefT (List ℕ)) (y : State). stepAt (now x) y) (e .0) (e .1)))))))))))))))
+        by ! (exits f u′ (e′ ∙ ap (λ (x : Reader). stepAt (now (x .book)) (x .state)) e))))))))))))))
 
 module _ {M : Type 1} (𝓤 : URA M) (H : Heap 𝓤) (A : Atoms 𝓤) (W : Given 𝓤 H A) (mem : Memory → SProp 𝓤) (run : Routine → Fun 𝓤) where
   step-walks : (C : Calls 𝓤 H) (Λ : Loops 𝓤 H) → FmC 𝓤 H (W .laws) C → Triple 𝓤 (C #field·at) (At 𝓤 H A mem run) → Triple 𝓤 (C #field·next) (Next 𝓤 H A mem run)

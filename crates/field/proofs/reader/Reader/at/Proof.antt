@@ -77,7 +77,7 @@ module _ {M : Type 1} (𝓤 : URA M) (H : Heap 𝓤) (A : Atoms 𝓤) (W : Given
   exits : ent 𝓤 (onEntry 𝓤 H A at.signature (κ, tt) (q, tt) (s, (st, tt)) passed) (Post (T′.lowered made))
   exits =
       qed W ((‵ (flft κ q) ⊛ ‵ ftrue) ∷ ‵ Owns ∷ []) ∵
-      suffices ! _ (ends-at 𝓤 H A at.ended stayed (at.clauses 𝓤 H A mem run) W (((κ, tt), (q, tt), tt, (s, (st, tt)), passed), tt) (T′.lowered made) made (tt, (tt, tt)) (tt, (tt, tt))) $ says ! (refl, refl) $
+      suffices ! _ (ends-at 𝓤 H A at.ended stayed (at.clauses 𝓤 H A mem run) W (((κ, tt), (q, tt), tt, (s, (st, tt)), passed), tt) (T′.lowered made) made (tt, (tt, tt)) (tt, (tt, tt))) $ says ! refl $
       frame ! $ use1 W (‵ Owns ⊛ ‵ Owns) (twices 𝓤 H A W Rs (shr-slice-copy 𝓤 H A W (named 0) κ u8, (LL.copy S.the-type S′.the-copy 𝓤 H A W, tt)) (s, (st, tt)) passed) $ split ! $ frame ! $ by ! (own-shut 𝓤 H A W (T.the-type α) (T′.the-laws α) (s, (st, tt)))
 
   module _ (C : Calls 𝓤 H) (Λ : Loops 𝓤 H) where
