@@ -128,6 +128,20 @@ fn ranks() -> Book {
     book(curves, &[(1, 0, 1, 2), (2, 0, 1, 2)])
 }
 
+/// The same where one curve is slower, on either side: the minimum of zero and a faster line goes
+/// by the greater rank, their convolution by T+T'+D, here 20+34+43*47 with a P of 43*47.
+fn slower_ranks() -> Book {
+    let curves = vec![
+        line(9, 61, 0, 0),
+        line(9, 67, 1, 0),
+        line(20, 43, 0, 0),
+        line(34, 47, 1, 0),
+        line(0, 1, 0, 0),
+    ];
+    let claims = [(2, 0, 1, 4), (2, 1, 0, 4), (3, 2, 3, 4), (3, 3, 2, 4)];
+    book(curves, &claims)
+}
+
 /// f is 0 before its rank and large from tick T+d-1 on: with f(T) in the least over 0 <= t < T, N
 /// would be above the limit.
 fn before_the_rank() -> Book {
@@ -186,6 +200,9 @@ pub fn examples() -> Result<Vec<Example>, String> {
     let both = "claim 0 accepted\nclaim 1 accepted\n\
                 total 2 accepted 2 refuted 0 unjudged 0\ncertified yes\n";
     all.push(("ranks", ranks().bytes(), both.into()));
+    let four = "claim 0 accepted\nclaim 1 accepted\nclaim 2 accepted\nclaim 3 accepted\n\
+                total 4 accepted 4 refuted 0 unjudged 0\ncertified yes\n";
+    all.push(("slower_ranks", slower_ranks().bytes(), four.into()));
     let at_3 = refuted("at 3 left 1 right 0");
     all.push(("before_the_rank", before_the_rank().bytes(), at_3));
     all.push(("empty", vec![], "refused 1 at 0\n".into()));

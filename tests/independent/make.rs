@@ -451,15 +451,22 @@ pub fn large_book(dice: &mut Dice) -> Book {
 
 const COPRIME: [(i64, i64); 4] = [(61, 67), (63, 65), (63, 64), (59, 67)];
 
-/// Lines of coprime periods; one of the three ranks brings the horizon to the target.
+/// Lines of coprime periods; one of the three ranks brings the horizon to the target. Of a
+/// minimum one line may be faster: it is then nowhere below the other, and N is 0.
 fn far_lines(dice: &mut Dice, book: &mut Book, kind: u8, target: i64) {
     let (d, e) = dice.pick(&COPRIME);
     let most = target - d * e;
     let mut ranks = [0; 3].map(|_| dice.below(most + 1));
     ranks[dice.index(3)] = most;
     let pace = dice.below(3);
-    let f = line(ranks[0], d, pace, dice.below(3));
-    let g = line(ranks[1], e, pace, dice.below(3));
+    let mut starts = [dice.below(3), dice.below(3)];
+    let mut faster = pace;
+    if kind == 2 && dice.once_in(2) {
+        faster += 1;
+        starts.sort();
+    }
+    let f = line(ranks[0], d, pace, starts[0]);
+    let g = line(ranks[1], e, faster, starts[1]);
     let (start, pace) = match kind {
         1 => (f.values[0] + g.values[0], 2 * pace),
         _ => (f.values[0].min(g.values[0]), pace),
@@ -468,17 +475,30 @@ fn far_lines(dice: &mut Dice, book: &mut Book, kind: u8, target: i64) {
     if dice.once_in(2) {
         h = nearly(dice, h);
     }
-    let (left, right, third) = (book.add(f), book.add(g), book.add(h));
-    book.claim(kind, left, right, third.into());
+    either_way(dice, book, kind, [f, g, h]);
 }
 
 fn far_convolution(dice: &mut Dice, book: &mut Book, target: i64) {
-    let [f, g, mut h] = steep_triple(dice.below(4), target - 2 * 2_021);
+    let ranks = target - 2 * 2_021;
+    let [f, g, mut h] = if dice.once_in(2) {
+        steep_triple(dice.below(4), ranks)
+    } else {
+        slower_triple(dice, ranks)
+    };
     if dice.once_in(2) {
         h = nearly(dice, h);
     }
+    either_way(dice, book, 3, [f, g, h]);
+}
+
+/// The claim h of f and g, with f on the left or on the right.
+fn either_way(dice: &mut Dice, book: &mut Book, kind: u8, [f, g, h]: [Curve; 3]) {
     let (left, right, third) = (book.add(f), book.add(g), book.add(h));
-    book.claim(3, left, right, third.into());
+    if dice.once_in(2) {
+        book.claim(kind, left, right, third.into());
+    } else {
+        book.claim(kind, right, left, third.into());
+    }
 }
 
 /// The slower curve stands at `high`, so N is high/pace rounded up and one tick less than
@@ -590,6 +610,16 @@ pub fn steep_triple(which: i64, ranks: i64) -> [Curve; 3] {
     let t = (0..=ranks).find(|t| repeats(&values, *t, 1));
     let h = t.and_then(|t| form(&values, t, 1));
     [f, g, h.expect("the convolution ends as a line of pace 1")]
+}
+
+/// Periods 43 and 47 and ranks that add up to `ranks`: zero, and a faster line whose first
+/// value their convolution has at every tick. N is below the ranks' sum, so the horizon is
+/// ranks + 2*43*47.
+fn slower_triple(dice: &mut Dice, ranks: i64) -> [Curve; 3] {
+    let t = dice.between(0, ranks);
+    let g = line(ranks - t, 47, dice.between(1, 3), dice.below(3));
+    let h = line(dice.below(ranks), 1, 0, g.values[0]);
+    [line(t, 43, 0, 0), g, h]
 }
 
 fn curve_of(t: i64, d: i64, f: impl Fn(i64) -> i64) -> Curve {

@@ -88,13 +88,22 @@ line : Curve
 unfolding curve
 line = curve 0 1 1 (0 ∷ [])
 
+-- ranks 2 and 3, and rates 1 and 2
+late : Curve
+unfolding curve
+late = curve 2 1 1 (0 ∷ 0 ∷ 0 ∷ [])
+
+steep : Curve
+unfolding curve
+steep = curve 3 1 2 (10 ∷ 10 ∷ 10 ∷ 10 ∷ [])
+
 -- 0, 10, 1, 11 and so on: the listed values rise, and the curve falls at the seam of its period
 seam : Curve
 unfolding curve
 seam = curve 0 2 1 (0 ∷ 10 ∷ [])
 
 table : List Row
-unfolding _is_ flat A B S minAB convAB line seam
+unfolding _is_ flat A B S minAB convAB line late steep seam
 table =
     -- W1
     valueOf A 5 is number 8
@@ -150,6 +159,11 @@ table =
     ∷ verdictOf (equals convolution (flat 0 1 5) line (flat 0 1 5)) is judged accepted
     -- with T+T'+D for the rank, ticks 0 to 3 alone would be compared, and agree
     ∷ verdictOf (equals convolution (curve 1 1 0 (0 ∷ 100 ∷ [])) line line) is judged (refutedAt 101 100 101)
+    -- where rates differ and N is small, the ranks alone decide: max(T,T') for a minimum, T+T'+D for a convolution, whichever is the slower one
+    ∷ horizonOf (equals minimum late steep (flat 0 1 0)) is number 4
+    ∷ horizonOf (equals minimum steep late (flat 0 1 0)) is number 4
+    ∷ horizonOf (equals convolution late steep (flat 0 1 0)) is number 7
+    ∷ horizonOf (equals convolution steep late (flat 0 1 0)) is number 7
     -- rates 1/2 and 2/3, both 0 in whole numbers
     ∷ horizonOf (equals minimum (curve 0 2 1 (0 ∷ 0 ∷ [])) (curve 0 3 2 (0 ∷ 0 ∷ 0 ∷ [])) (flat 0 1 0)) is number 14
     -- P has h's period too; kinds 4 to 7 have max(T,T')+D
