@@ -10,10 +10,9 @@ use Prim.Native.Nat.{ℕ, zero, suc, _+_, _≤_, _<_, min}
 use mathlib.Core.Path.{_≡_, sym, ap, _∙_}
 use mathlib.Core.List.{List, _∷_}
 use native.Mathlib.Omega.{arith}
-use mathlib.Core.Logic.{inl, inr}
-use native.Mathlib.Nat.{eq-or-lt-of-le}
 use lib.ListN.{take, getD, length}
 use lib.Seq.{ext-getD, getD-take, length-take-le}
+use borrow.Author.Count.{below-none, below-more}
 use Rattle.minplus.specs.Curve as C
 use Rattle.curve.specs.declared.Curve.{Curve}
 use Rattle.curve.specs.Filled.{listOf, filled, length-listOf, listOf-at, filled-length, filled-at, filled-same}
@@ -59,16 +58,13 @@ pub record Listed (l : List ℕ) (count : ℕ) : Type 0 where
   pub rise : (n : ℕ) → n < count → getD (0 ∷ l) n 0 ≤ getD l n 0
 
 pub listed-none : (l : List ℕ) → Listed l 0
-listed-none l = record { fit = λ n lt. absurd (omega (arith, lt)); rise = λ n lt. absurd (omega (arith, lt)) }
+listed-none l = record { fit = below-none _; rise = below-none _ }
 
 pub listed-more : {l : List ℕ} {n : ℕ} → Listed l n → getD l n 0 ≤ C.maxUnits → getD (0 ∷ l) n 0 ≤ getD l n 0 → Listed l (n + 1)
 listed-more {l} {n} so-far fits rises = record {
-  fit = λ m lt. elim (eq-or-lt-of-le (last lt)) [ inl e ↦ rw e fits | inr less ↦ so-far .fit m less ];
-  rise = λ m lt. elim (eq-or-lt-of-le (last lt)) [ inl e ↦ rw e rises | inr less ↦ so-far .rise m less ];
+  fit = below-more (λ m. getD l m 0 ≤ C.maxUnits) n (so-far .fit) fits;
+  rise = below-more (λ m. getD (0 ∷ l) m 0 ≤ getD l m 0) n (so-far .rise) rises;
 }
-  where
-    last : {m : ℕ} → m < n + 1 → m ≤ n
-    last lt = omega arith
 
 -- of the working array, exactly the values that count have to be listed well
 module _ (rank period increment : ℕ) (l : List ℕ) where
