@@ -27,8 +27,7 @@ use Rattle.content.specs.declared.Checked.the-variants.{Sound}
 use Rattle.content.specs.Refusals.{on, on-sound}
 use Rattle.field.specs.declared.Tag.{Tag}
 use Rattle.field.specs.declared.Tag.the-variants.{Version, Curve, Claim, End}
-use Rattle.field.specs.declared.Tagged.{Tagged}
-use Rattle.field.specs.declared.Tagged.the-variants.{Known, Unknown}
+use Rattle.field.specs.declared.Tagged.the-variants.{Known}
 use Rattle.field.specs.declared.State.{State}
 use Rattle.field.specs.declared.Field.the-variants as field
 use Rattle.field.specs.Fields.{tagNumber, tags, known, tagBy, headLength, tagOf, lengthOf, contentOf, contentAt, versionIn, fieldBytes}
@@ -75,13 +74,9 @@ pub tag-number : (b : ℕ) (t : Tag) → tagBy b ≡ Known t → b ≡ tagNumber
 unfolding tagBy
 tag-number b t e = go (numbered tagNumber tags b) refl e
   where
-    tagIn : Tagged → Tag
-    tagIn Unknown = t
-    tagIn (Known t′) = t′
-
     go : (o : Option Tag) → numbered tagNumber tags b ≡ o → known o ≡ Known t → b ≡ tagNumber t
-    go none is e = let z : _≡_ {A = ℕ} 0 1 = cc in absurd (omega (arith, z))
-    go (some t′) is e = numbered-so tagNumber tags b t′ is ∙ ap tagNumber (ap tagIn e)
+    go none is e = cc
+    go (some t′) is e = let same : t′ ≡ t = cc in numbered-so tagNumber tags b t′ is ∙ ap tagNumber same
 
 -- ---- a field that was written, read
 

@@ -4,7 +4,8 @@
 --
 --     Call             the four calls with their arguments; tagOf, contentOf, fieldOf: the field that one writes
 --     fresh            a writer before it has begun
---     callFault        why a call is refused, in that order
+--     callFault        why a call is refused, in that order: the first of orderFault, argumentFault and roomFault
+--     movedBy          where a writer stands after a call that is taken (versionOf, closes)
 --     called           the answer and the writer after it
 --     written          every byte of the buffer after it
 --     Passes           a call is taken exactly when (passes)
@@ -14,7 +15,6 @@ use mathlib.Core.Path.{_≡_, refl, ap}
 use mathlib.Core.Bool.{Bool, true, false, not}
 use mathlib.Core.List.{List, []}
 use mathlib.Core.Logic.{_↔_}
-use native.Mathlib.Omega.{arith}
 use lib.ListN.{length}
 use lib.Dec.{ltb}
 use borrow.Author.Tests.{ltb-false, le-ltb, not-false}
@@ -30,6 +30,7 @@ use Rattle.field.specs.declared.Tag.{Tag}
 use Rattle.field.specs.declared.Tag.the-variants as tag
 use Rattle.field.specs.Fields.{fieldBytes}
 use Rattle.field.specs.Steps.{isVersion, inOrder, full, after}
+use Rattle.book.specs.Reading.{start}
 use Rattle.writer.specs.declared.Writer.{Writer}
 use Rattle.writer.specs.declared.Called.{Called}
 
@@ -57,7 +58,7 @@ abbrev pub fieldOf : Call → List ℕ
 fieldOf call = fieldBytes (tagOf call) (contentOf call)
 
 abbrev pub fresh : Writer
-fresh = record { state = record { version = 0; curves = 0; claims = 0; place = 0 }; closed = false }
+fresh = record { state = start; closed = false }
 
 -- ---- why a call is refused
 
@@ -113,12 +114,12 @@ abbrev pub movedBy : Call → Writer → Writer
 movedBy call w = record { state = after (tagOf call) (w .state) (versionOf call) (w .state .place + length (fieldOf call)); closed = closes call }
 
 -- "bytes and state then stay"
-abbrev pub calledOn : Checked → Call → Writer → Called
+abbrev calledOn : Checked → Call → Writer → Called
 calledOn (Refused x) call w = record { checked = Refused x; writer = w }
 calledOn Sound call w = record { checked = Sound; writer = movedBy call w }
 
 -- "A call that is taken writes the field's bytes after those before and no others."
-abbrev pub writtenOn : Checked → Call → Writer → List ℕ → List ℕ
+abbrev writtenOn : Checked → Call → Writer → List ℕ → List ℕ
 writtenOn (Refused x) call w s = s
 writtenOn Sound call w s = put s (w .state .place) (fieldOf call)
 
@@ -140,7 +141,7 @@ pub record Passes (w : Writer) (room : ℕ) (call : Call) : Type 0 where
   pub fits : w .state .place + length (fieldOf call) ≤ room
 
 first-sound : (x y : Checked) → first x y ≡ Sound → (x ≡ Sound) × (y ≡ Sound)
-first-sound (Refused x) y e = let z : _≡_ {A = ℕ} 0 1 = cc in absurd (omega (arith, z))
+first-sound (Refused x) y e = (cc, cc)
 first-sound Sound y e = (refl, e)
 
 pub passes : (w : Writer) (room : ℕ) (call : Call) → (callFault w room call ≡ Sound) ↔ Passes w room call
