@@ -48,7 +48,7 @@ kept-stage untouched = (omega arith, omega arith, omega arith)
 kept-stage (unfinished {b} w) = (version-fits (b .version) (w .version-known) .1, w .curves-fit, w .claims-fit)
 kept-stage (finished {b} w) = (version-fits (b .version) (w .version-known) .1, w .curves-fit, w .claims-fit)
 
-pub kept-after : {s : List ℕ} {d : Desk} → Written s d → Kept (d .writer)
+kept-after : {s : List ℕ} {d : Desk} → Written s d → Kept (d .writer)
 kept-after {s} {d} so =
     let few = kept-stage (so .stage) in
     let is = so .writer-is in
