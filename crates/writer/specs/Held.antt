@@ -1,14 +1,14 @@
 -- A field as the code writes it: tag and length, then number after number.
 --
---     head-put             tag and length; number-length, head-length: as many bytes as before
+--     head-put             tag and length (headBytes); number-length, head-length: as many bytes as before
 --     version-put, curve-put, claim-put, end-put     a whole field, from what each step left
 --     version-size, curve-size, claim-size, end-size     how many bytes it has
---     Filling              the values of a curve, as far as they are written: filling-none, filling-more, filling-all
+--     Filling              the values of a curve, as far as they are written: filling-none, filling-more, filling-all; filling-length: as many bytes as before
 --     fault-is, moved-by   the tests and the new state, by the field's size; refused-return, taken-return: what is returned then
 use Prim.Native.Nat.{ℕ, _+_, _*_, _≤_, _<_}
 use mathlib.Core.Path.{_≡_, refl, sym, ap, ap₂, subst, _∙_}
 use mathlib.Core.Bool.{Bool, true, false}
-use mathlib.Core.List.{List, [], _++_, append-assoc}
+use mathlib.Core.List.{List, [], _++_, flatMap, append-assoc}
 use native.Mathlib.Omega.{arith}
 use native.Mathlib.Nat.{add-zero}
 use native.Mathlib.Numerals.{add-one}
@@ -17,13 +17,14 @@ use lib.Seq.{take-all, take-suc}
 use lib.Dec.{leb}
 use borrow.Author.Tests.{leb-true}
 use Rattle.minplus.specs.Curve.{Curve}
+use Rattle.numbers.specs.Lists.{flat-more}
 use Rattle.numbers.specs.Put.{put, putWhole, bytesOf, length-put, length-bytes}
 use Rattle.numbers.specs.Written.{Wrote, wrote-nothing, wrote-number, wrote-length, wrote-on}
 use Rattle.content.specs.declared.Refusal.{Refusal}
 use Rattle.content.specs.declared.Checked.{Checked}
 use Rattle.content.specs.declared.Checked.the-variants.{Sound, Refused}
 use Rattle.content.specs.Layout.{valuesBytes, curveBytes, Statement, thirdWidth, claimBytes}
-use Rattle.content.specs.Back.{values-bytes-more, length-values, length-curve, length-claim}
+use Rattle.content.specs.Back.{length-values, length-curve, length-claim}
 use Rattle.field.specs.declared.Tag.{Tag}
 use Rattle.field.specs.declared.Tag.the-variants as tag
 use Rattle.field.specs.Fields.{tagNumber, fieldBytes}
@@ -37,6 +38,9 @@ abbrev pub headBytes : Tag → ℕ → List ℕ
 headBytes t n = bytesOf 1 (tagNumber t) ++ bytesOf 2 n
 
 -- ---- how many bytes
+
+three : (t : Tag) (n : ℕ) → length (headBytes t n) ≡ 3
+three t n = length-append (bytesOf 1 (tagNumber t)) (bytesOf 2 n) ∙ rw (length-bytes 1 (tagNumber t), length-bytes 2 n)
 
 pub version-size : (v : ℕ) → length (fieldOf (begin v)) ≡ 4
 unfolding contentOf
@@ -75,13 +79,12 @@ module _ (s : List ℕ) (place : ℕ) (t : Tag) where
 
   pub head-length : {s₁ : List ℕ} (n : ℕ) → place + 3 ≤ length s → s₁ ≡ put s place (headBytes t n) → length s₁ ≡ length s
   head-length n fits e =
-      let long : length (headBytes t n) ≡ 3 = length-append (bytesOf 1 (tagNumber t)) (bytesOf 2 n) ∙ rw (length-bytes 1 (tagNumber t), length-bytes 2 n) in
-      ap length e ∙ length-put s place (headBytes t n) (omega (arith, long, fits))
+      ap length e ∙ length-put s place (headBytes t n) (omega (arith, three t n, fits))
 
   module _ {s₁ : List ℕ} (content : List ℕ) (fits : place + length (fieldBytes t content) ≤ length s) (e : s₁ ≡ put s place (headBytes t (length content))) where
     head : Wrote s place (headBytes t (length content)) s₁ (place + 3)
     head =
-        let long : length (headBytes t (length content)) ≡ 3 = length-append (bytesOf 1 (tagNumber t)) (bytesOf 2 (length content)) ∙ rw (length-bytes 1 (tagNumber t), length-bytes 2 (length content)) in
+        let long : length (headBytes t (length content)) ≡ 3 = three t (length content) in
         record { fits = omega (arith, long, fits, length-field t content); held = e; past = omega (arith, long) }
 
     -- after its head there is room for the content
@@ -144,7 +147,7 @@ pub record Filling (s : List ℕ) (at : ℕ) (values : List ℕ) (n : ℕ) (s′
   pub so-far : Wrote s at (valuesBytes (take n values)) s′ (at + 4 * n)
 
 pub filling-none : (s : List ℕ) (at : ℕ) (values : List ℕ) → at + 4 * length values ≤ length s → Filling s at values 0 s
-unfolding valuesBytes
+unfolding flatMap
 filling-none s at values fits = record { within = omega arith; room = fits; so-far = rw (add-zero at) (wrote-nothing s at (omega (arith, fits))) }
 
 module _ {s : List ℕ} {at : ℕ} {values : List ℕ} {n : ℕ} {s′ : List ℕ} (f : Filling s at values n s′) where
@@ -154,7 +157,7 @@ module _ {s : List ℕ} {at : ℕ} {values : List ℕ} {n : ℕ} {s′ : List �
   pub filling-more : {s″ : List ℕ} → n < length values → s″ ≡ putWhole s′ (at + 4 * n) (bytesOf 4 (getD values n 0)) → Filling s at values (n + 1) s″
   filling-more {s″} more e =
       let text : valuesBytes (take n values) ++ bytesOf 4 (getD values n 0) ≡ valuesBytes (take (n + 1) values) =
-      sym (ap (λ (k : ℕ). valuesBytes (take k values)) (add-one n) ∙ ap valuesBytes (take-suc values n 0 more) ∙ values-bytes-more (take n values) (getD values n 0)) in
+      sym (ap (λ (k : ℕ). valuesBytes (take k values)) (add-one n) ∙ ap valuesBytes (take-suc values n 0 more) ∙ flat-more (bytesOf 4) (take n values) (getD values n 0)) in
       record {
         within = omega (arith, more);
         room = f .room;

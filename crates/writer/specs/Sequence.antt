@@ -1,19 +1,19 @@
 -- Calls of a writer one after the other: any calls whatever, taken or refused, and those that write a book.
 --
---     Desk             where the writing of a book stands: the writer, the lent bytes, and what the calls that were taken have said (entered)
---     step, afterCalls     one call and a list of them, by Writing's `called` and `written`; opened, reached: from a writer that has not begun
+--     Desk             where the writing of a book stands: the writer, the lent bytes, and what the calls that were taken have said (entered, enteredOn)
+--     step, afterCalls     one call (step-refused, step-taken) and a list of them, by Writing's `called` and `written`; opened, reached: from a writer that has not begun
 --     textIn           the bytes before the writer's place; Says: they are a sound book that says this
 --     AllTaken         no call of the list is refused
 --     callsFor         the calls that write a book: begin, each curve, each claim, close
 --     Stage            what is written and what is said go together: nothing yet, a book without its end, a book
---     Written          what holds after any calls whatever (any-calls). So:
+--     Written          what holds after any calls whatever (any-calls), of a writer that stands after a text (standing). So:
 --         closed-sound     what a closed writer has written is a sound book, and says what the calls said
 --         open-ends        what an open one has written lacks only the end; begins-sound: and is always the beginning of a sound book
---         calls-bytes      it is bytes; closed-stays: and once closed, it stays
+--         closed-stays     once closed, it stays
 --     calls-write      a book within the limits is written by its calls, if it has room: all are taken, and they leave its bytes and no others
 --     written-and-read, read-and-written     and so read again; and a book that was read is written as it was
 --     closed-same      any calls that leave a closed book leave what its own calls do
---     w8-calls         the same of document 01's book; w8-stands, w8-short: computed, with room and with one byte too few
+--     w8-stands, w8-short     document 01's book, computed, with room and with one byte too few
 use Prim.Native.Nat.{ℕ, _+_, _≤_, _<_}
 use mathlib.Core.Path.{_≡_, refl, sym, ap, subst, subst₂, _∙_}
 use mathlib.Core.Bool.{Bool, true, false, not, true≢false}
@@ -27,15 +27,14 @@ use lib.Seq.{take-at, take-all}
 use lib.Dec.{eqb}
 use borrow.Author.Tests.{leb-false, eqb-true, not-false, lt-leb}
 use Rattle.minplus.specs.Search.{both-true}
-use Rattle.minplus.specs.Curve.{Curve, WellFormed}
+use Rattle.minplus.specs.Curve.{WellFormed}
 use Rattle.minplus.specs.Claim.{kindBy}
 use Rattle.numbers.specs.Put.{put, bytesOf, put-nothing, length-put, drop-put, put-put}
-use Rattle.numbers.specs.Back.{Bytes, bytes-take}
+use Rattle.numbers.specs.Back.{Bytes}
 use Rattle.content.specs.declared.Refusal.{Refusal}
 use Rattle.content.specs.declared.Refusal.the-variants.{OutOfOrder, WrongVersion}
 use Rattle.content.specs.declared.Checked.{Checked}
 use Rattle.content.specs.declared.Checked.the-variants.{Sound, Refused}
-use Rattle.content.specs.Layout.{Statement}
 use Rattle.content.specs.Refusals.{on-sound}
 use Rattle.content.specs.Sound.{listed-well, WellStated, well-stated}
 use Rattle.field.specs.declared.Tag.the-variants as tag
@@ -45,8 +44,8 @@ use Rattle.field.specs.Steps.{maxCurves, maxClaims, isVersion, inOrder, full, a
 use Rattle.field.specs.Back.{begun-on}
 use Rattle.book.specs.Reading.{Contents, sound, readBook}
 use Rattle.book.specs.Ground.{w8}
-use Rattle.book.specs.Listing.{Listing, curveFields, claimFields, openBytes, bookBytes, begun, withCurve, withClaim, WellListed, listingIn, open-begun, open-curve, open-claim, bytes-book, length-book, well-begun, well-curve, well-claim}
-use Rattle.book.specs.RoundTrip.{written-read, read-written, read-well, w8-listing, w8-written, w8-well}
+use Rattle.book.specs.Listing.{Listing, listed, curveFields, claimFields, openBytes, bookBytes, begun, withCurve, withClaim, WellListed, listingIn, open-begun, open-curve, open-claim, length-book, well-begun, well-curve, well-claim}
+use Rattle.book.specs.RoundTrip.{written-read, read-written, read-well, w8-listing, w8-well}
 use Rattle.writer.specs.declared.Writer.{Writer}
 use Rattle.writer.specs.declared.Called.{Called}
 use Rattle.writer.specs.Writing.{Call, begin, addCurve, addClaim, close, tagOf, contentOf, fieldOf, fresh, orderFault, argumentFault, callFault, versionOf, closes, movedBy, called, written, Passes, passes, call-refused, call-taken}
@@ -57,14 +56,14 @@ pub record Desk : Type 0 where
   pub listing : Listing
 
 -- what is said with one call more. A version is taken only where nothing is said yet
-abbrev pub entered : Listing → Call → Listing
-entered b (begin v) = record { version = v; curves = b .curves; claims = b .claims }
+abbrev entered : Listing → Call → Listing
+entered b (begin v) = listed v (b .curves) (b .claims)
 entered b (addCurve f) = withCurve b f
 entered b (addClaim c) = withClaim b c
 entered b close = b
 
 -- a call that is refused says nothing
-abbrev pub enteredOn : Checked → Listing → Call → Listing
+abbrev enteredOn : Checked → Listing → Call → Listing
 enteredOn (Refused x) b call = b
 enteredOn Sound b call = entered b call
 
@@ -105,13 +104,13 @@ callsFor b = begin (b .version) ∷ (map addCurve (b .curves) ++ (map addClaim (
 -- ---- one call
 
 module _ (d : Desk) (call : Call) where
-  pub step-refused : (x : Refusal) → callFault (d .writer) (length (d .buffer)) call ≡ Refused x → step d call ≡ d
+  step-refused : (x : Refusal) → callFault (d .writer) (length (d .buffer)) call ≡ Refused x → step d call ≡ d
   unfolding step
   step-refused x e =
       let r = call-refused call (d .writer) (d .buffer) x e in
       λ i. record { writer = r .0 i .writer; buffer = r .1 i; listing = enteredOn (r .0 i .checked) (d .listing) call }
 
-  pub step-taken : callFault (d .writer) (length (d .buffer)) call ≡ Sound
+  step-taken : callFault (d .writer) (length (d .buffer)) call ≡ Sound
       → step d call ≡ record { writer = movedBy call (d .writer); buffer = put (d .buffer) (d .writer .state .place) (fieldOf call); listing = entered (d .listing) call }
   unfolding step
   step-taken e =
@@ -293,12 +292,6 @@ module _ (s : List ℕ) (calls : List Call) where
       let r = written-read (p .book) (p .well) in
       (p .rest, r .0, ap readBook (p .whole) ∙ r .1)
 
-  pub calls-bytes : Bytes (textIn (reached s calls))
-  calls-bytes =
-      let p = begins (so .stage) in
-      let n : ℕ = length (textIn d) in
-      subst Bytes (ap (take n) (sym (p .whole)) ∙ take-at (textIn d) (p .rest) n refl) (bytes-take n (bookBytes (p .book)) (bytes-book (p .book)))
-
 -- ---- the calls that write a book
 
 module _ (s : List ℕ) (end : Desk) where
@@ -336,9 +329,6 @@ module _ (s : List ℕ) (end : Desk) where
         one l x text (omega (arith, few)) (both .0) (omega (arith, fits, more)) (map call m ++ calls)
         (every-call (l ++ (x ∷ [])) m (text ++ new) calls (omega (arith, few, length-append l (x ∷ []))) (both .1) (omega (arith, fits, more, length-append text new))
         (subst₂ (λ (k : List A) (t : List ℕ). Goes (laid s false (said k) t) calls) (sym (append-assoc l (x ∷ []) m)) (sym (append-assoc text new (fields m))) g))
-
-abbrev listed : ℕ → List Curve → List Statement → Listing
-listed v curves claims = record { version = v; curves = curves; claims = claims }
 
 module _ (s : List ℕ) (b : Listing) (w : WellListed b) (room : length (bookBytes b) ≤ length s) where
   abbrev end : Desk
@@ -409,12 +399,6 @@ closed-same s calls = go (laid-reached s calls)
     go (laid-out (finished {b} w) room) e = sym (calls-write s b w room .1)
 
 -- ---- document 01's book in full
-
-pub w8-calls : (s : List ℕ) → 59 ≤ length s → AllTaken (opened s) (callsFor w8-listing) × (reached s (callsFor w8-listing) .buffer ≡ put s 0 w8)
-unfolding w8
-w8-calls s room =
-    let r = calls-write s w8-listing w8-well (omega (arith, room, ap length w8-written)) in
-    (r .0, ap (λ (d : Desk). d .buffer) (r .1) ∙ ap (put s 0) w8-written)
 
 pub w8-stands : reached (replicate 60 0) (callsFor w8-listing)
     ≡ record { writer = record { state = record { version = 1; curves = 2; claims = 1; place = 59 }; closed = true }; buffer = w8 ++ (0 ∷ []); listing = w8-listing }
