@@ -1,7 +1,7 @@
 -- A claim as the code goes through it: the kind with X, then the ids, then X again.
 --
 --     orFar                    where X is too large: the ids are looked at first
---     refusalIn                why a claim is refused, from what it states
+--     checkedIn                why a claim is refused, from what it states
 --     claim-unknown, claim-far, claim-named     `stated`, by what `Claim::new` says of kind and X
 --     statement-fault, claim-fault     the refusals, from what is stated
 use Prim.Native.Nat.{ℕ}
@@ -29,9 +29,9 @@ abbrev pub orFar : Bool → ClaimField
 orFar true = claim-field.Refused NoSuchCurve
 orFar false = claim-field.Refused TooLarge
 
-abbrev pub refusalIn : ClaimField → Checked
-refusalIn (claim-field.Refused x) = Refused x
-refusalIn (claim-field.Stated c) = Sound
+abbrev pub checkedIn : ClaimField → Checked
+checkedIn (claim-field.Refused x) = Refused x
+checkedIn (claim-field.Stated c) = Sound
 
 -- ---- laws
 
@@ -96,24 +96,24 @@ claim-named (some (M.bound δ t)) curves c cl e = go (ltb M.maxX (c .third)) ref
     go true beyond e = cc
     go false close e = near (M.bound δ t) curves c close cl cc
 
-pub statement-fault : (curves : ℕ) (c : Statement) → statementFault curves c ≡ refusalIn (statementField curves c)
+pub statement-fault : (curves : ℕ) (c : Statement) → statementFault curves c ≡ checkedIn (statementField curves c)
 unfolding statementFault statementField
 statement-fault curves c = go (M.kindBy (c .kind))
   where
-    back : (y : Checked) (st : Stated) → y ≡ refusalIn (statedOr y st)
+    back : (y : Checked) (st : Stated) → y ≡ checkedIn (statedOr y st)
     back (Refused x) st = refl
     back Sound st = refl
 
-    go : (κ : Option M.Kind) → elim κ as (λ _. Checked) [ none ↦ Refused WrongClaim | some κ ↦ kindFault κ curves c ] ≡ refusalIn (stated κ curves c)
+    go : (κ : Option M.Kind) → elim κ as (λ _. Checked) [ none ↦ Refused WrongClaim | some κ ↦ kindFault κ curves c ] ≡ checkedIn (stated κ curves c)
     go none = refl
     go (some κ) = back (kindFault κ curves c) (statedOf κ c)
 
-pub claim-fault : (curves : ℕ) (content : List ℕ) → claimFault curves content ≡ refusalIn (claimField curves content)
+pub claim-fault : (curves : ℕ) (content : List ℕ) → claimFault curves content ≡ checkedIn (claimField curves content)
 unfolding claimFault claimField
 claim-fault curves content = go (eqb (length content) (claimLength (claimIn content .kind)))
   where
     go : (b : Bool)
         → on (not b) WrongClaim (statementFault curves (claimIn content))
-        ≡ refusalIn (elim b as (λ _. ClaimField) [ true ↦ statementField curves (claimIn content) | false ↦ claim-field.Refused WrongClaim ])
+        ≡ checkedIn (elim b as (λ _. ClaimField) [ true ↦ statementField curves (claimIn content) | false ↦ claim-field.Refused WrongClaim ])
     go true = statement-fault curves (claimIn content)
     go false = refl

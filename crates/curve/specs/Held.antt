@@ -1,7 +1,7 @@
 -- The curve that the code's values stand for.
 --
 --     heldOf, curveOf                T, d, c and the first T + d places of an array, as a curve of the crate minplus
---     padded                         a list in the working array; held-whole: what is put in is what is held; padded-listed: F(0) to F(k-1) in it
+--     padded                         a list in the working array; held-whole: what is put in is what is held; padded-listed, padded-filled: F(0) to F(k-1) in it
 --     holding                        a curve in the working copy; holding-back: of a well-formed one, it is that curve
 --     Listed                         document 01's limits on the listed values, for a loop that looks at one more each turn
 --     listed-none, listed-more       before the first turn, and after one more
@@ -15,7 +15,7 @@ use lib.Seq.{ext-getD, getD-take, length-take-le}
 use borrow.Author.Count.{below-none, below-more}
 use Rattle.minplus.specs.Curve as C
 use Rattle.curve.specs.declared.Curve.{Curve}
-use Rattle.curve.specs.Filled.{listOf, filled, length-listOf, listOf-at, filled-length, filled-at, filled-same}
+use Rattle.curve.specs.Filled.{listOf, filled, length-listOf, listOf-at, filled-length, filled-at, filled-taken, filled-same}
 
 abbrev pub heldOf : ℕ → ℕ → ℕ → List ℕ → C.Curve
 heldOf rank period increment listed = record { rank = rank; period = period; increment = increment; listed = take (rank + period) listed }
@@ -36,6 +36,12 @@ pub padded-listed : (F : ℕ → ℕ) (k : ℕ) → padded (listOf F k) ≡ fill
 padded-listed F k =
     rw (length-listOf F k)
     (filled-same (λ n. getD (listOf F k) n 0) F C.maxListed (min k C.maxListed) (λ n lt. listOf-at F k n (omega arith)))
+
+-- the stored part of an array that was filled from F, in a working array of its own
+pub padded-filled : (F : ℕ → ℕ) (n k : ℕ) → n ≡ min k C.maxListed → padded (take n (filled F C.maxListed n)) ≡ padded (listOf F k)
+padded-filled F n k e =
+    let capped : min n C.maxListed ≡ min k C.maxListed = omega (arith, e) in
+    rw (filled-taken F C.maxListed n, padded-listed F n, capped, padded-listed F k)
 
 -- what is put in is what is held
 module _ (rank period increment : ℕ) (listed : List ℕ) (whole : length listed ≡ rank + period) (fits : rank + period ≤ C.maxListed) where
