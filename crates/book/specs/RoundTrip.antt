@@ -13,12 +13,13 @@ use mathlib.Mathlib.Data.List.Defs.{Forall}
 use mathlib.Mathlib.Data.List.Basic.{forall-cons, forall-map-iff, Forall·imp}
 use native.Mathlib.Omega.{arith}
 use lib.ListN.{length, take, drop, length-append, length-map}
-use lib.Seq.{drop-at, drop-drop, take-all, take-length}
+use lib.Seq.{drop-at, drop-drop, take-length}
 use lib.Dec.{ltb, eqb}
 use borrow.Author.Tests.{eqb-true, eqb-false, not-true, le-ltb, lt-leb}
 use Rattle.minplus.specs.Search.{both-true}
 use Rattle.minplus.specs.Curve.{Curve, WellFormed}
 use Rattle.curve.specs.Filled.{listOf}
+use Rattle.numbers.specs.Lists.{length-zero}
 use Rattle.numbers.specs.Numbers.{numberAt}
 use Rattle.numbers.specs.Put.{bytesOf, length-bytes}
 use Rattle.numbers.specs.Back.{Bytes}
@@ -276,7 +277,7 @@ module _ {s : List ℕ} (small : Bytes s) {st : State} {curves claims : List ℕ
       let taken = takes s st tag.Curve next e in
       let order = both-true (not (eqb (st .version) 0)) (eqb (st .claims) 0) .0 (taken .ordered) in
       let same : next .version ≡ st .version = ap (λ (x : State). x .version) (taken .then) in
-      let none-yet : claims ≡ [] = sym (take-all 0 claims (omega (arith, r .claim-count, eqb-true (st .claims) 0 (order .1)))) in
+      let none-yet : claims ≡ [] = length-zero claims (sym (r .claim-count) ∙ eqb-true (st .claims) 0 (order .1)) in
       let lists : listingIn s (held next (curves ++ (st .place ∷ [])) claims) ≡ withCurve says (curveIn content) = λ i. record {
         version = same i;
         curves = map-append (curveAt s) curves (st .place ∷ []) i;

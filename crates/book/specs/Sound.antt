@@ -16,7 +16,7 @@ use lib.ListN.{length, length-append}
 use lib.Dec.{ltb, eqb}
 use borrow.Author.Tests.{leb-false, eqb-true, eqb-false, not-true, ltb-false}
 use Rattle.minplus.specs.Search.{both-true}
-use Rattle.numbers.specs.Lists.{forall-more}
+use Rattle.numbers.specs.Lists.{forall-more, length-zero}
 use Rattle.content.specs.declared.Refusal.{Refusal}
 use Rattle.content.specs.declared.Refusal.the-variants.{BookTooLong}
 use Rattle.content.specs.declared.Checked.the-variants.{Sound, Refused}
@@ -50,11 +50,6 @@ Means s (refused x p) = (p ≤ length s) × (p ≤ maxBytes)
 
 -- ---- laws
 
-none-listed : (P : ℕ → Type 0) (l : List ℕ) → length l ≡ 0 → Forall P l
-unfolding Forall
-none-listed P [] e = tt
-none-listed P (x ∷ l) e = absurd (omega (arith, e))
-
 -- where a reader stands, with the places of what it has read: what holds of these so far
 record Kept (s : List ℕ) (st : State) (curves claims : List ℕ) : Type 0 where
   version-known : (st .version ≡ 0) ⊎ (isVersion (st .version) ≡ true)
@@ -86,7 +81,7 @@ module _ {s : List ℕ} {st : State} {curves claims : List ℕ} (kept : Kept s s
       }
 
   kept-curve : stepAt s st ≡ field.Taken tag.Curve next → Kept s next (curves ++ (st .place ∷ [])) claims
-  unfolding after contentFault inOrder full
+  unfolding after contentFault inOrder full Forall
   kept-curve e =
       let taken = takes s st tag.Curve next e in
       let one-more : length (curves ++ (st .place ∷ [])) ≡ length curves + 1 = length-append curves (st .place ∷ []) in
@@ -98,7 +93,7 @@ module _ {s : List ℕ} {st : State} {curves claims : List ℕ} (kept : Kept s s
         curves-fit = let below : st .curves < maxCurves = leb-false _ _ (taken .room) in omega (arith, one-more, kept .curve-count, below);
         claims-fit = kept .claims-fit;
         each-curve = forall-more (SoundCurve s) curves (st .place) (kept .each-curve) (taken .content);
-        each-claim = none-listed (SoundClaim s (length (curves ++ (st .place ∷ [])))) claims (sym (kept .claim-count) ∙ none-yet);
+        each-claim = subst (Forall (SoundClaim s (length (curves ++ (st .place ∷ []))))) (sym (length-zero claims (sym (kept .claim-count) ∙ none-yet))) tt;
         inside = next-inside taken (kept .inside) .1;
         short = kept .short;
       }
@@ -150,7 +145,7 @@ read-from (suc k) s st curves claims kept = go (stepAt s st) refl (read-from k s
     go (field.Taken tag.End next) e later = kept-end kept next e
 
 pub read-means : (s : List ℕ) → Means s (readBook s)
-unfolding readBook
+unfolding readBook Forall
 read-means s = go (ltb maxBytes (length s)) refl
   where
     begun : length s ≤ maxBytes → Kept s start [] []
@@ -160,8 +155,8 @@ read-means s = go (ltb maxBytes (length s)) refl
       claim-count = refl;
       curves-fit = omega arith;
       claims-fit = omega arith;
-      each-curve = none-listed (SoundCurve s) [] refl;
-      each-claim = none-listed (SoundClaim s 0) [] refl;
+      each-curve = tt;
+      each-claim = tt;
       inside = omega arith;
       short = fits;
     }

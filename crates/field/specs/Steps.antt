@@ -8,7 +8,7 @@
 --     after            where a reader stands after a field (after-place)
 --     stepOn, stepAt   a field's answer, by tagged and answer
 --     field-cases      a field is refused at its place (refused-at), or its tests pass and it is taken
---     Takes            what is known of a field that is taken (takes); next-inside: the next place is in the book or at its end
+--     Takes            what is known of a field that is taken (takes); next-place, next-inside: the next place is in the book or at its end
 use Prim.Native.Nat.{ℕ, _+_, _-_, _≤_, _<_}
 use mathlib.Core.Path.{_≡_, refl, ap, subst, _∙_}
 use mathlib.Core.Bool.{Bool, true, false, _&&_, not}
@@ -185,9 +185,12 @@ module _ (s : List ℕ) (st : State) where
       field-cases (λ (f : Field). f ≡ field.Refused x p → p ≡ st .place)
       (λ x′ e. cc) (λ t is sound e. cc)
 
+pub next-place : {s : List ℕ} {st : State} {t : Tag} {next : State} → Takes s st t next → next .place ≡ st .place + fieldSize (drop (st .place) s)
+next-place {st = st} {t = t} taken = ap (λ (x : State). x .place) (taken .then) ∙ after-place t st _ _
+
 -- the place of the next field is further on, and inside the book or at its end
 pub next-inside : {s : List ℕ} {st : State} {t : Tag} {next : State} → Takes s st t next → st .place ≤ length s → (st .place < next .place) × (next .place ≤ length s)
 next-inside {s} {st} {t} {next} taken inside =
-    let at : next .place ≡ st .place + fieldSize (drop (st .place) s) = ap (λ (x : State). x .place) (taken .then) ∙ after-place t st _ _ in
+    let at = next-place taken in
     let left : length (drop (st .place) s) ≡ length s - st .place = length-drop (st .place) s in
     (omega (arith, at), omega (arith, at, left, taken .whole, inside))

@@ -2,8 +2,9 @@
 --
 --     forall-at       where all members are such, so is the one at a place; forall-more: and so are all with one such more
 --     flat-more       a list for each member, one after the other, and one more
+--     length-zero     a list without a member
 use Prim.Native.Nat.{ℕ, zero, suc, _<_}
-use mathlib.Core.Path.{_≡_, sym, ap, _∙_}
+use mathlib.Core.Path.{_≡_, refl, sym, ap, _∙_}
 use mathlib.Core.List.{List, [], _∷_, _++_, flatMap, append-nil, append-assoc}
 use mathlib.Mathlib.Data.List.Defs.{Forall}
 use mathlib.Mathlib.Data.List.Basic.{forall-append, forall-cons}
@@ -24,3 +25,7 @@ pub flat-more : {A : Type 0} (f : A → List ℕ) (l : List A) (x : A) → flatM
 unfolding flatMap
 flat-more f [] x = append-nil (f x)
 flat-more f (y ∷ l) x = ap (λ (r : List ℕ). f y ++ r) (flat-more f l x) ∙ sym (append-assoc (f y) (flatMap f l) (f x))
+
+pub length-zero : {A : Type 0} (l : List A) → length l ≡ 0 → l ≡ []
+length-zero [] e = refl
+length-zero (x ∷ l) e = absurd (omega (arith, e))
