@@ -23,12 +23,13 @@ use mathlib.Mathlib.Data.List.Basic.{forall-cons}
 use native.Mathlib.Omega.{arith}
 use native.Mathlib.Nat.{zero-add}
 use lib.ListN.{length, take, drop, replicate, length-append}
-use lib.Seq.{take-at, take-all}
+use lib.Seq.{take-at}
 use lib.Dec.{eqb}
 use borrow.Author.Tests.{leb-false, eqb-true, not-false, lt-leb}
 use Rattle.minplus.specs.Search.{both-true}
 use Rattle.minplus.specs.Curve.{WellFormed}
 use Rattle.minplus.specs.Claim.{kindBy}
+use Rattle.numbers.specs.Lists.{length-zero}
 use Rattle.numbers.specs.Put.{put, bytesOf, put-nothing, length-put, drop-put, put-put}
 use Rattle.numbers.specs.Back.{Bytes}
 use Rattle.content.specs.declared.Refusal.{Refusal}
@@ -48,7 +49,7 @@ use Rattle.book.specs.Listing.{Listing, listed, curveFields, claimFields, openB
 use Rattle.book.specs.RoundTrip.{written-read, read-written, read-well, w8-listing, w8-well}
 use Rattle.writer.specs.declared.Writer.{Writer}
 use Rattle.writer.specs.declared.Called.{Called}
-use Rattle.writer.specs.Writing.{Call, begin, addCurve, addClaim, close, tagOf, contentOf, fieldOf, fresh, orderFault, argumentFault, callFault, versionOf, closes, movedBy, called, written, Passes, passes, call-refused, call-taken}
+use Rattle.writer.specs.Writing.{Call, begin, addCurve, addClaim, close, callTag, callContent, callField, fresh, orderFault, argumentFault, callFault, versionOf, closes, movedBy, called, written, Passes, passes, call-refused, call-taken}
 
 pub record Desk : Type 0 where
   pub writer : Writer
@@ -111,7 +112,7 @@ module _ (d : Desk) (call : Call) where
       λ i. record { writer = r .0 i .writer; buffer = r .1 i; listing = enteredOn (r .0 i .checked) (d .listing) call }
 
   step-taken : callFault (d .writer) (length (d .buffer)) call ≡ Sound
-      → step d call ≡ record { writer = movedBy call (d .writer); buffer = put (d .buffer) (d .writer .state .place) (fieldOf call); listing = entered (d .listing) call }
+      → step d call ≡ record { writer = movedBy call (d .writer); buffer = put (d .buffer) (d .writer .state .place) (callField call); listing = entered (d .listing) call }
   unfolding step
   step-taken e =
       let r = call-taken call (d .writer) (d .buffer) e in
@@ -147,7 +148,7 @@ unfolding put
 take-laid s text = take-at text (drop (0 + length text) s) (length text) refl
 
 -- what is said is counted
-counts-on : (b : Listing) (call : Call) (p q : ℕ) → after (tagOf call) (counted b p) (versionOf call) q ≡ counted (entered b call) q
+counts-on : (b : Listing) (call : Call) (p q : ℕ) → after (callTag call) (counted b p) (versionOf call) q ≡ counted (entered b call) q
 unfolding after
 counts-on b (begin v) p q = refl
 counts-on b (addCurve f) p q = λ i. record { version = b .version; curves = sym (length-append (b .curves) (f ∷ [])) i; claims = length (b .claims); place = q }
@@ -156,15 +157,15 @@ counts-on b close p q = refl
 
 module _ (s : List ℕ) (closed : Bool) (b : Listing) (text : List ℕ) (call : Call) (p : Passes (standing closed b text) (length s) call) where
   abbrev new : List ℕ
-  new = fieldOf call
+  new = callField call
 
   laid-fault : callFault (standing closed b text) (length (put s 0 text)) call ≡ Sound
   laid-fault = rw (length-laid s text (omega (arith, p .fits))) (passes (standing closed b text) (length s) call .1 p)
 
-  laid-on : step (laid s closed b text) call ≡ laid s (closes call) (entered b call) (text ++ fieldOf call)
+  laid-on : step (laid s closed b text) call ≡ laid s (closes call) (entered b call) (text ++ callField call)
   laid-on =
       let k : ℕ = length text in
-      let state-is : after (tagOf call) (counted b k) (versionOf call) (k + length new) ≡ counted (entered b call) (length (text ++ new)) =
+      let state-is : after (callTag call) (counted b k) (versionOf call) (k + length new) ≡ counted (entered b call) (length (text ++ new)) =
       counts-on b call k (k + length new) ∙ ap (counted (entered b call)) (sym (length-append text new)) in
       let buffer-is : put (put s 0 text) k new ≡ put s 0 (text ++ new) =
       ap (λ (at : ℕ). put (put s 0 text) at new) (sym (zero-add k)) ∙ put-put s 0 text new (omega (arith, p .fits)) in
@@ -193,8 +194,8 @@ never e = absurd (true≢false (sym e))
 
 -- a call that is taken leads from one stage to the next
 stage-on : {closed : Bool} {b : Listing} {text : List ℕ} → Stage closed b text → (room : ℕ) (call : Call) → Passes (standing closed b text) room call
-    → Stage (closes call) (entered b call) (text ++ fieldOf call)
-unfolding inOrder full argumentFault contentOf bookBytes
+    → Stage (closes call) (entered b call) (text ++ callField call)
+unfolding inOrder full argumentFault callContent bookBytes
 stage-on untouched room (begin v) p =
     subst (Stage false (begun v)) (open-begun v) (unfinished (well-begun v (not-false _ (on-sound (not (isVersion v)) WrongVersion Sound (p .right) .0))))
 stage-on untouched room (addCurve f) p = never (p .ordered)
@@ -203,7 +204,7 @@ stage-on untouched room close p = never (p .ordered)
 stage-on (unfinished {b} w) room (begin v) p = never (sym (begun-on (b .version) (w .version-known)) ∙ p .ordered)
 stage-on (unfinished {b} w) room (addCurve f) p =
     let order = both-true (not (eqb (b .version) 0)) (eqb (length (b .claims)) 0) .0 (p .ordered) in
-    let none-yet : b .claims ≡ [] = sym (take-all 0 (b .claims) (omega (arith, eqb-true (length (b .claims)) 0 (order .1)))) in
+    let none-yet : b .claims ≡ [] = length-zero (b .claims) (eqb-true (length (b .claims)) 0 (order .1)) in
     subst (Stage false (withCurve b f)) (open-curve b f none-yet) (unfinished (well-curve w f (listed-well f .0 (p .right)) (leb-false _ _ (p .few)) none-yet))
 stage-on (unfinished {b} w) room (addClaim c) p =
     subst (Stage false (withClaim b c)) (open-claim b c) (unfinished (well-claim w c (well-stated (length (b .curves)) c .0 (p .right)) (leb-false _ _ (p .few))))
@@ -221,7 +222,7 @@ laid-step {s} (laid-out {closed} {b} {text} stage room) call = go (callFault (st
     go (Refused x) e = subst (Laid s) (sym (step-refused (laid s closed b text) call x e)) (laid-out stage room)
     go Sound e =
         let p = passes (standing closed b text) (length s) call .0 (rw (length-laid s text room) at e) in
-        subst (Laid s) (sym (laid-on s closed b text call p)) (laid-out (stage-on stage (length s) call p) (omega (arith, p .fits, length-append text (fieldOf call))))
+        subst (Laid s) (sym (laid-on s closed b text call p)) (laid-out (stage-on stage (length s) call p) (omega (arith, p .fits, length-append text (callField call))))
 
 laid-calls : {s : List ℕ} {d : Desk} → Laid s d → (calls : List Call) → Laid s (afterCalls d calls)
 unfolding afterCalls
@@ -302,7 +303,7 @@ module _ (s : List ℕ) (end : Desk) where
 
   -- one call, and then the others
   goes-on : (closed : Bool) (b : Listing) (text : List ℕ) (call : Call) → Passes (standing closed b text) (length s) call
-      → (calls : List Call) → Goes (laid s (closes call) (entered b call) (text ++ fieldOf call)) calls → Goes (laid s closed b text) (call ∷ calls)
+      → (calls : List Call) → Goes (laid s (closes call) (entered b call) (text ++ callField call)) calls → Goes (laid s closed b text) (call ∷ calls)
   unfolding AllTaken afterCalls
   goes-on closed b text call p calls g =
       let here : Desk = laid s closed b text in
@@ -313,10 +314,10 @@ module _ (s : List ℕ) (end : Desk) where
 
   -- a call for each of a list, and then the others
   module _ {A : Type 0} (call : A → Call) (limit : ℕ) (P : A → Type 0) (said : List A → Listing)
-      (one : (l : List A) (x : A) (text : List ℕ) → length l < limit → P x → length text + length (fieldOf (call x)) ≤ length s
-      → (calls : List Call) → Goes (laid s false (said (l ++ (x ∷ []))) (text ++ fieldOf (call x))) calls → Goes (laid s false (said l) text) (call x ∷ calls)) where
+      (one : (l : List A) (x : A) (text : List ℕ) → length l < limit → P x → length text + length (callField (call x)) ≤ length s
+      → (calls : List Call) → Goes (laid s false (said (l ++ (x ∷ []))) (text ++ callField (call x))) calls → Goes (laid s false (said l) text) (call x ∷ calls)) where
     abbrev fields : List A → List ℕ
-    fields l = flatMap (λ x. fieldOf (call x)) l
+    fields l = flatMap (λ x. callField (call x)) l
 
     every-call : (l m : List A) (text : List ℕ) (calls : List Call) → length l + length m ≤ limit → Forall P m → length text + length (fields m) ≤ length s
         → Goes (laid s false (said (l ++ m)) (text ++ fields m)) calls → Goes (laid s false (said l) text) (map call m ++ calls)
@@ -324,7 +325,7 @@ module _ (s : List ℕ) (end : Desk) where
     every-call l [] text calls few each fits g = subst₂ (λ (k : List A) (t : List ℕ). Goes (laid s false (said k) t) calls) (append-nil l) (append-nil text) g
     every-call l (x ∷ m) text calls few each fits g =
         let both = forall-cons P x m .0 each in
-        let new : List ℕ = fieldOf (call x) in
+        let new : List ℕ = callField (call x) in
         let more : length (new ++ fields m) ≡ length new + length (fields m) = length-append new (fields m) in
         one l x text (omega (arith, few)) (both .0) (omega (arith, fits, more)) (map call m ++ calls)
         (every-call (l ++ (x ∷ [])) m (text ++ new) calls (omega (arith, few, length-append l (x ∷ []))) (both .1) (omega (arith, fits, more, length-append text new))
@@ -338,7 +339,7 @@ module _ (s : List ℕ) (b : Listing) (w : WellListed b) (room : length (bookByt
   v = b .version
 
   abbrev t₀ : List ℕ
-  t₀ = fieldOf (begin v)
+  t₀ = callField (begin v)
 
   abbrev t₁ : List ℕ
   t₁ = t₀ ++ curveFields (b .curves)
@@ -346,18 +347,18 @@ module _ (s : List ℕ) (b : Listing) (w : WellListed b) (room : length (bookByt
   abbrev t₂ : List ℕ
   t₂ = t₁ ++ claimFields (b .claims)
 
-  all-is : t₂ ++ fieldOf close ≡ bookBytes b
-  unfolding bookBytes contentOf
-  all-is = ap (λ (t : List ℕ). t ++ fieldOf close) (append-assoc t₀ (curveFields (b .curves)) (claimFields (b .claims)))
+  all-is : t₂ ++ callField close ≡ bookBytes b
+  unfolding bookBytes callContent
+  all-is = ap (λ (t : List ℕ). t ++ callField close) (append-assoc t₀ (curveFields (b .curves)) (claimFields (b .claims)))
 
   goes-all : Goes s end (laid s false (begun 0) []) (callsFor b)
-  unfolding callsFor inOrder full argumentFault contentOf AllTaken afterCalls
+  unfolding callsFor inOrder full argumentFault callContent AllTaken afterCalls
   goes-all =
       let begun-so = begun-on v (w .version-known) in
       let n₁ = length-append t₀ (curveFields (b .curves)) in
       let n₂ = length-append t₁ (claimFields (b .claims)) in
-      let n₃ = length-append t₂ (fieldOf close) in
-      let fits : length t₂ + length (fieldOf close) ≤ length s = omega (arith, room, n₃, ap length all-is) in
+      let n₃ = length-append t₂ (callField close) in
+      let fits : length t₂ + length (callField close) ≤ length s = omega (arith, room, n₃, ap length all-is) in
       let last : List Call = close ∷ [] in
       let claims : List Call = map addClaim (b .claims) ++ last in
       let at-end : Goes s end (laid s false b t₂) last =
