@@ -1,6 +1,6 @@
 -- A sound book as the code runs over it.
 --
---     Told s places st           what is known of a claim's field that is read as st: its curves are there and well formed, and so is it (told)
+--     ClaimTold s places st      what is known of a claim's field that is read as st: its curves are there and well formed, and so is it (claim-told)
 --     claim-held                 a claim of curves in their working copies
 --     verdict-given              the verdict on a well-formed claim (orUnjudged)
 --     Runs s book b              what the loop is given: a sound book as it is held, and a buffer with room for its records
@@ -50,7 +50,7 @@ pub record Runs (s : List ℕ) (book : Book) (b : List ℕ) : Type 0 where
   pub held : book ≡ bookOf contents
   pub room : recordSize * length (contents .claims) ≤ length b
 
-pub record Told (s places : List ℕ) (st : Stated) : Type 0 where
+pub record ClaimTold (s places : List ℕ) (st : Stated) : Type 0 where
   pub left-named : st .left < maxCurves
   pub right-named : st .right < maxCurves
   pub claimed-named : st .claimed < maxCurves
@@ -65,13 +65,13 @@ orUnjudged (some v) = v
 
 -- ---- laws
 
-pub told : {s places : List ℕ} {curves p : ℕ} → StandsOver s places curves p → (st : Stated) → claimField curves (contentAt s p) ≡ claim-field.Stated st → Told s places st
-told {s} {places} {curves} {p} over st e = let same : stands .stated ≡ st = cc (stands .so) in subst (Told s places) same so-far
+pub claim-told : {s places : List ℕ} {curves p : ℕ} → StandsOver s places curves p → (st : Stated) → claimField curves (contentAt s p) ≡ claim-field.Stated st → ClaimTold s places st
+claim-told {s} {places} {curves} {p} over st e = let same : stands .stated ≡ st = cc (stands .so) in subst (ClaimTold s places) same so-far
   where
     stands : Stands curves (contentAt s p)
     stands = over .stands
 
-    so-far : Told s places (over .stands .stated)
+    so-far : ClaimTold s places (over .stands .stated)
     so-far = record {
       left-named = omega (arith, stands .left-named, over .few);
       right-named = omega (arith, stands .right-named, over .few);
