@@ -6,12 +6,12 @@ use lib.ListN.{length}
 use denote.Ref.{now}
 use Rattle.minplus.specs.Curve.{Curve, value}
 use Rattle.curve.specs.Held.{curveOf, holding, holding-back}
-use Rattle.book.specs.Held.{readingOf, outcome-refused, outcome-sound}
+use Rattle.book.specs.Held.{bookOf, read-refused, read-sound}
 use Rattle.book.specs.Sound.{sound-book}
 use Rattle.book.specs.Values.{curveNamed, named-array, named-well, asked-refused, asked-none, asked-far, asked-value}
 use Rattle.book.specs.Reading.{Contents, sound, readBook}
 use Rattle.book.specs.declared.Asked.the-variants as asked
-use Rattle.book.specs.declared.Reading.{Reading}
+use Rattle.book.specs.declared.Book.{Book}
 use Rattle.book.proofs.values.value_in.Statement.{statement}
 use Rattle.book.proofs.values.value_in.Tie as tie
 use borrow.Author.Needs.{needs}
@@ -26,17 +26,11 @@ enum-known-outcome c = search needs
 abbrev book : tie.After-enum-told → List ℕ
 book c = now (c .before .before .before .before .before .args .book)
 
-sound-so : (c : tie.After-enum-told) → (b : Contents) × (readBook (book c) ≡ sound b)
-sound-so c =
-    outcome-sound (readBook (book c))
-    (ap (λ (r : Reading). r .outcome) (sym (c .before .before .before .read .ensures)) ∙ c .enum-told .given .1)
-
-held : (c : tie.After-enum-told) → c .before .before .before .read .result ≡ readingOf (sound (sound-so c .0))
-held c = c .before .before .before .read .ensures ∙ ap readingOf (sound-so c .1)
+sound-so : (c : tie.After-enum-told) → (b : Contents) × (readBook (book c) ≡ sound b) × (c .before .before .before .read .result .book ≡ bookOf b)
+sound-so c = read-sound (book c) (c .before .before .before .read .ensures) (c .enum-told .given .1)
 
 count : (c : tie.After-enum-told) → c .before .before .before .read .result .book .curves ≡ length (sound-so c .0 .curves)
-unfolding readingOf
-count c = ap (λ (r : Reading). r .book .curves) (held c)
+count c = ap (λ (b : Book). b .curves) (sound-so c .2)
 
 -- a number that names a curve
 named : (c : tie.Else1) → c .before .before .before .before .before .before .args .curve < length (sound-so (c .before) .0 .curves)
@@ -48,8 +42,7 @@ room c = omega (arith, named c, sound-book _ _ (sound-so (c .before) .1) .curves
 returns : tie.Need-returns
 returns c =
     let a = c .before .before .before .before .before .before .args in
-    let refused = ap (λ (r : Reading). r .outcome) (sym (c .before .before .before .before .read .ensures)) ∙ c .before .outcome .given .1 in
-    sym (asked-refused (now (a .book)) (a .curve) (a .tick) _ _ (outcome-refused (readBook (now (a .book))) _ _ refused))
+    sym (asked-refused (now (a .book)) (a .curve) (a .tick) _ _ (read-refused (now (a .book)) (c .before .before .before .before .read .ensures) (c .before .outcome .given .1)))
 
 enum-told : tie.Need-enum-told
 enum-told c = search needs
@@ -85,14 +78,13 @@ value-at-requires : tie.Need-value-at-requires
 value-at-requires c κs = search needs
 
 returns-4 : tie.Need-returns-4
-unfolding readingOf
 returns-4 c =
     let a = c .before .before .before .before .before .before .before .before .before .before .before .before .before .before .before .before .args in
     let at = c .before .before .before .before .before .before .before .before .before .before in
     let s = now (a .book) in
     let so = sound-so (at .before) in
     let is = c .before .before .before .before .before .before .curve-at .ensures
-    ∙ ap (λ (r : Reading). holding (curveNamed s (r .book .places .curves) (a .curve))) (held (at .before))
+    ∙ ap (λ (b : Book). holding (curveNamed s (b .places .curves) (a .curve))) (so .2)
     ∙ ap holding (named-array s (so .0 .curves) (a .curve) (named at)) in
     let back = ap curveOf is ∙ holding-back (curveNamed s (so .0 .curves) (a .curve)) (named-well (sound-book s (so .0) (so .1)) (a .curve) (named at)) in
     ap (λ (v : ℕ). asked.Value (record { 0 = v })) (c .value-at .ensures ∙ ap (λ (f : Curve). value f (a .tick)) back)
