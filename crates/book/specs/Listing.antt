@@ -83,9 +83,6 @@ listingIn s c = listed (c .version) (map (curveAt s) (c .curves)) (map (claimAt 
 -- ---- laws
 
 module _ {A : Type 0} (t : Tag) (bytes : A → List ℕ) where
-  fields-more : (l : List A) (x : A) → fieldsOf t bytes (l ++ (x ∷ [])) ≡ fieldsOf t bytes l ++ fieldBytes t (bytes x)
-  fields-more = flat-more (λ (x : A). fieldBytes t (bytes x))
-
   -- each field is three bytes longer than its content
   length-fields : (k : ℕ) (l : List A) → Forall (λ x. length (bytes x) ≤ k) l → length (fieldsOf t bytes l) ≤ (3 + k) * length l
   unfolding flatMap
@@ -121,7 +118,7 @@ module _ (b : Listing) where
   open-curve f none-yet =
       let new : List ℕ = fieldBytes tag.Curve (curveBytes f) in
       rw none-yet
-      (ap (λ (r : List ℕ). first ++ r) (append-nil (curveFields (b .curves ++ (f ∷ []))) ∙ fields-more tag.Curve curveBytes (b .curves) f)
+      (ap (λ (r : List ℕ). first ++ r) (append-nil (curveFields (b .curves ++ (f ∷ []))) ∙ flat-more (λ (g : Curve). fieldBytes tag.Curve (curveBytes g)) (b .curves) f)
       ∙ sym (append-assoc first curves new)
       ∙ ap (λ (r : List ℕ). (first ++ r) ++ new) (sym (append-nil curves)))
 
@@ -129,7 +126,7 @@ module _ (b : Listing) where
   unfolding openBytes
   open-claim c =
       let new : List ℕ = fieldBytes tag.Claim (claimBytes c) in
-      ap (λ (r : List ℕ). first ++ r) (ap (λ (r : List ℕ). curves ++ r) (fields-more tag.Claim claimBytes (b .claims) c) ∙ sym (append-assoc curves claims new))
+      ap (λ (r : List ℕ). first ++ r) (ap (λ (r : List ℕ). curves ++ r) (flat-more (λ (d : Statement). fieldBytes tag.Claim (claimBytes d)) (b .claims) c) ∙ sym (append-assoc curves claims new))
       ∙ sym (append-assoc first (curves ++ claims) new)
 
   pub bytes-book : Bytes (bookBytes b)
