@@ -29,13 +29,13 @@ use Rattle.book.specs.declared.CurveValue.{CurveValue}
 use Rattle.book.specs.Reading.{Contents, Read, sound, refused, maxBytes, readBook}
 use Rattle.book.specs.Sound.{SoundCurve, SoundBook, refused-inside}
 
-abbrev pub maxTick : ℕ
+abbrev maxTick : ℕ
 maxTick = 2_000_000_000
 
 abbrev pub curveNamed : List ℕ → List ℕ → ℕ → Curve
 curveNamed s places k = curveIn (contentAt s (getD places k 0))
 
-unfoldable pub askedOf : List ℕ → Read → ℕ → ℕ → Asked
+unfoldable askedOf : List ℕ → Read → ℕ → ℕ → Asked
 unfolding value
 askedOf s (refused x p) k n = asked.Refused x p
 askedOf s (sound c) k n =

@@ -71,7 +71,7 @@ tag-back Curve = (omega arith, refl)
 tag-back Claim = (omega arith, refl)
 tag-back End = (omega arith, refl)
 
-pub tag-number : (b : ℕ) (t : Tag) → tagBy b ≡ Known t → b ≡ tagNumber t
+tag-number : (b : ℕ) (t : Tag) → tagBy b ≡ Known t → b ≡ tagNumber t
 unfolding tagBy
 tag-number b t e = go (numbered tagNumber tags b) refl e
   where
@@ -94,7 +94,7 @@ module _ (t : Tag) (content post : List ℕ) where
   abbrev bytes : List ℕ
   bytes = fieldBytes t content ++ post
 
-  pub field-tag : tagOf (fieldBytes t content ++ post) ≡ Known t
+  field-tag : tagOf (fieldBytes t content ++ post) ≡ Known t
   unfolding fieldBytes
   field-tag =
       ap (λ (r : List ℕ). tagBy (numberAt 1 r 0)) (append-assoc (bytesOf 1 (tagNumber t)) (bytesOf 2 (length content) ++ content) post)
@@ -113,7 +113,7 @@ module _ (t : Tag) (content post : List ℕ) where
     unfolding fieldBytes bytesOf
     rest = refl
 
-    pub field-content : contentOf (fieldBytes t content ++ post) ≡ content
+    field-content : contentOf (fieldBytes t content ++ post) ≡ content
     field-content = ap₂ (λ (n : ℕ) (r : List ℕ). take n r) field-length rest ∙ take-at content post (length content) refl
 
     size : fieldSize bytes ≡ length (fieldBytes t content)
