@@ -6,7 +6,7 @@ use Prim.Native.Nat.{ℕ, zero, suc, _+_, _*_, _^_, _≤_, _<_}
 use mathlib.Core.Path.{_≡_, refl, sym, ap, _∙_}
 use mathlib.Core.List.{List, [], _++_, append-assoc, append-nil}
 use native.Mathlib.Omega.{arith}
-use lib.ListN.{length, drop, length-append}
+use lib.ListN.{length, drop}
 use borrow.Author.Count.{below-more}
 use Rattle.minplus.specs.Curve.{value, value-at-most}
 use Rattle.minplus.specs.Claim.{Claim, WellFormedClaim, equals, bounds, sum, minimum, convolution, delay, backlog, due, allowed}
@@ -17,7 +17,7 @@ use Rattle.minplus.specs.Meaning.{Meaning, well-formed-proper}
 use Rattle.minplus.specs.Exact.{verdict-exact}
 use Rattle.numbers.specs.Numbers.{numberAt}
 use Rattle.numbers.specs.Put.{put, bytesOf, length-bytes}
-use Rattle.numbers.specs.Back.{number-back}
+use Rattle.numbers.specs.Back.{number-on, number-front, number-back}
 use Rattle.judge.specs.Answer.{recordSize, recordIn}
 use Rattle.judge.specs.Records.{recordBytes, recordsTo, length-records, record-parts}
 
@@ -85,21 +85,17 @@ record-middle : (pre post : List ℕ) (r : Record) (k : ℕ) → Fits r → leng
 record-middle pre post r k fits e =
     let one : List ℕ = bytesOf 1 (r .code) in
     let four : List ℕ = bytesOf 4 (r .tick) in
-    let left : List ℕ = bytesOf 8 (r .left) in
-    let right : List ℕ = bytesOf 8 (r .right) in
-    let whole : List ℕ = pre ++ (recordBytes r ++ post) in
-    let w₁ : whole ≡ pre ++ (one ++ (four ++ (left ++ (right ++ post)))) = rw (record-parts r) (simp append-assoc) in
-    let w₂ : whole ≡ (pre ++ one) ++ (four ++ (left ++ (right ++ post))) = rw (record-parts r) (simp append-assoc) in
-    let w₃ : whole ≡ ((pre ++ one) ++ four) ++ (left ++ (right ++ post)) = rw (record-parts r) (simp append-assoc) in
-    let w₄ : whole ≡ (((pre ++ one) ++ four) ++ left) ++ (right ++ post) = rw (record-parts r) (simp append-assoc) in
-    let n₂ : length (pre ++ one) ≡ recordSize * k + 1 = rw (length-append pre one, e, length-bytes 1 (r .code)) in
-    let n₃ : length ((pre ++ one) ++ four) ≡ recordSize * k + 5 = rw (length-append (pre ++ one) four, n₂, length-bytes 4 (r .tick)) (omega arith) in
-    let n₄ : length (((pre ++ one) ++ four) ++ left) ≡ recordSize * k + 13 = rw (length-append ((pre ++ one) ++ four) left, n₃, length-bytes 8 (r .left)) (omega arith) in
-    let c = ap (λ (t : List ℕ). numberAt 1 t (recordSize * k)) w₁ ∙ number-back 1 (r .code) pre _ _ (sym e) (fits .code-fits) in
-    let t = ap (λ (t : List ℕ). numberAt 4 t (recordSize * k + 1)) w₂ ∙ number-back 4 (r .tick) (pre ++ one) _ _ (sym n₂) (fits .tick-fits) in
-    let l = ap (λ (t : List ℕ). numberAt 8 t (recordSize * k + 5)) w₃ ∙ number-back 8 (r .left) ((pre ++ one) ++ four) _ _ (sym n₃) (fits .left-fits) in
-    let m = ap (λ (t : List ℕ). numberAt 8 t (recordSize * k + 13)) w₄ ∙ number-back 8 (r .right) (((pre ++ one) ++ four) ++ left) _ _ (sym n₄) (fits .right-fits) in
-    λ i. record { code = c i; tick = t i; left = l i; right = m i }
+    let eight : List ℕ = bytesOf 8 (r .left) in
+    let s : List ℕ = one ++ (four ++ (eight ++ (bytesOf 8 (r .right) ++ post))) in
+    let parts : recordBytes r ++ post ≡ s = rw (record-parts r) (simp append-assoc) in
+    let n₁ = length-bytes 1 (r .code) in
+    let n₂ = length-bytes 4 (r .tick) in
+    let n₃ = length-bytes 8 (r .left) in
+    let c : numberAt 1 (pre ++ s) (recordSize * k) ≡ r .code = number-back 1 (r .code) pre _ _ (sym e) (fits .code-fits) in
+    let t = number-on 4 1 _ pre s e ∙ number-on 4 0 1 one _ n₁ ∙ number-front 4 (r .tick) _ (fits .tick-fits) in
+    let l = number-on 8 5 _ pre s e ∙ number-on 8 4 1 one _ n₁ ∙ number-on 8 0 4 four _ n₂ ∙ number-front 8 (r .left) _ (fits .left-fits) in
+    let m = number-on 8 13 _ pre s e ∙ number-on 8 12 1 one _ n₁ ∙ number-on 8 8 4 four _ n₂ ∙ number-on 8 0 8 eight _ n₃ ∙ number-front 8 (r .right) post (fits .right-fits) in
+    rw parts (λ i. record { code = c i; tick = t i; left = l i; right = m i })
 
 pub records-back : (b : List ℕ) (f : ℕ → Record) (n k : ℕ) → k < n → Fits (f k) → recordIn (put b 0 (recordsTo f n)) k ≡ f k
 unfolding put
