@@ -18,7 +18,7 @@ use Rattle.field.specs.Fields.{tagBy, contentAt}
 use Rattle.content.specs.Refusals.{claimField}
 use Rattle.book.specs.declared.Asked.the-variants.{Value}
 use Rattle.book.specs.Reading.{Contents, sound, refused, readBook}
-use Rattle.book.specs.Values.{namedCurve, valueAsked}
+use Rattle.book.specs.Values.{curveNamed, valueAsked}
 
 -- version; A; B; A's delay on B is exactly 3; end
 unfoldable pub w8 : List ℕ
@@ -37,8 +37,8 @@ unfolding readBook w8 w8-contents tagBy kindBy numberAt
 w8-read = refl
 
 -- "A: T=1, d=1, c=1, values 0 4. B: T=2, d=1, c=2, values 0 0 0."
-pub w8-curves : (namedCurve w8 w8-contents 0 ≡ record { rank = 1; period = 1; increment = 1; listed = 0 ∷ 4 ∷ [] })
-    × (namedCurve w8 w8-contents 1 ≡ record { rank = 2; period = 1; increment = 2; listed = 0 ∷ 0 ∷ 0 ∷ [] })
+pub w8-curves : (curveNamed w8 (w8-contents .curves) 0 ≡ record { rank = 1; period = 1; increment = 1; listed = 0 ∷ 4 ∷ [] })
+    × (curveNamed w8 (w8-contents .curves) 1 ≡ record { rank = 2; period = 1; increment = 2; listed = 0 ∷ 0 ∷ 0 ∷ [] })
 unfolding w8 w8-contents numberAt listOf
 w8-curves = (refl, refl)
 

@@ -1,10 +1,12 @@
 -- What the code holds of a book that it reads.
 --
---     placesOf, bookOf     the places in arrays, and the book with them
---     readingOf        the answer as the code's struct: a refused book holds nothing; passedUp: from a field's answer
---     noted            the places with one more field
-use Prim.Native.Nat.{ℕ, zero, suc, _+_, _-_, _≤_, _<_}
-use mathlib.Core.Path.{_≡_, refl, sym, ap, ap₂, _∙_}
+--     placesOf, bookOf     the places in arrays, and the book with them (held-book)
+--     readingOf        the answer as the code's struct: a refused book holds nothing; passedUp, outcomeOf: from a field's answer
+--     read-refused, read-sound     what the answer's outcome tells of the book
+--     noted            the places with one more field; Notable: there is room, and it fits 16 bits
+--     Reads            a reader stands at a state of a book: reads-start; reads-refused, reads-end, reads-more: by the next field's answer
+use Prim.Native.Nat.{ℕ, zero, suc, _+_, _≤_, _<_}
+use mathlib.Core.Path.{_≡_, refl, sym, ap, _∙_}
 use mathlib.Core.Bool.{false}
 use mathlib.Core.List.{List, [], _∷_, _++_}
 use native.Mathlib.Omega.{arith}
@@ -31,7 +33,7 @@ placesOf curves claims = record { curves = inArray maxCurves curves; claims = in
 abbrev pub bookOf : Contents → Book
 bookOf c = record { version = c .version; curves = length (c .curves); claims = length (c .claims); places = placesOf (c .curves) (c .claims) }
 
-abbrev pub nothing : Book
+abbrev nothing : Book
 nothing = bookOf (record { version = 0; curves = []; claims = [] })
 
 unfoldable pub readingOf : Read → Reading
@@ -64,24 +66,23 @@ pub held-book : (v : ℕ) (curves claims : List ℕ) (n m : ℕ) (places : Place
     → _≡_ {A = Book} (record { version = v; curves = n; claims = m; places = places }) (bookOf (record { version = v; curves = curves; claims = claims }))
 held-book v curves claims n m places e e′ e″ = rw (e, e′, e″)
 
-abbrev refusalIn : Outcome → Refusal → Refusal
-refusalIn outcome.Sound other = other
-refusalIn (outcome.Refused x p) other = x
+-- what the outcome of an answer tells of the book
+module _ (s : List ℕ) {r : Reading} (is : r ≡ readingOf (readBook s)) where
+  pub read-refused : {x : Refusal} {p : ℕ} → r .outcome ≡ outcome.Refused x p → readBook s ≡ refused x p
+  unfolding readingOf
+  read-refused {x} {p} e = go (readBook s) (sym (ap (λ (y : Reading). y .outcome) is) ∙ e)
+    where
+      go : (y : Read) → readingOf y .outcome ≡ outcome.Refused x p → y ≡ refused x p
+      go (sound c) told = cc
+      go (refused y q) told = cc
 
-abbrev placeIn : Outcome → ℕ
-placeIn outcome.Sound = 0
-placeIn (outcome.Refused x p) = p
-
--- what the answer's outcome tells of the book
-pub outcome-refused : (r : Read) (x : Refusal) (p : ℕ) → readingOf r .outcome ≡ outcome.Refused x p → r ≡ refused x p
-unfolding readingOf
-outcome-refused (sound c) x p e = let z : _≡_ {A = ℕ} 0 1 = cc in absurd (omega (arith, z))
-outcome-refused (refused y q) x p e = ap₂ refused (ap (λ (o : Outcome). refusalIn o x) e) (ap placeIn e)
-
-pub outcome-sound : (r : Read) → readingOf r .outcome ≡ outcome.Sound → (c : Contents) × (r ≡ sound c)
-unfolding readingOf
-outcome-sound (sound c) e = (c, refl)
-outcome-sound (refused y q) e = let z : _≡_ {A = ℕ} 0 1 = cc in absurd (omega (arith, z))
+  pub read-sound : r .outcome ≡ outcome.Sound → (c : Contents) × (readBook s ≡ sound c) × (r .book ≡ bookOf c)
+  unfolding readingOf
+  read-sound e = go (readBook s) refl is
+    where
+      go : (y : Read) → readBook s ≡ y → r ≡ readingOf y → (c : Contents) × (readBook s ≡ sound c) × (r .book ≡ bookOf c)
+      go (sound c) so held = (c, so, ap (λ (y : Reading). y .book) held)
+      go (refused x p) so held = let z : _≡_ {A = ℕ} 0 1 = cc (sym e ∙ ap (λ (y : Reading). y .outcome) held) in absurd (omega (arith, z))
 
 -- a reader that stands at a state of a book, with the places before it, reads the book as from its start
 pub record Reads (s : List ℕ) (st : State) (places : Places) : Type 0 where

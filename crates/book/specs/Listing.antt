@@ -1,10 +1,10 @@
 -- What a book says, as values, and the bytes that say it. Document 01, 'The book': "Order: version, curves, claims, end."
 --
---     Listing                    a version, curves and claims
---     curveFields, claimFields   one field after the other (fieldsOf, fields-more)
+--     Listing, listed            a version, curves and claims
+--     curveFields, claimFields   one field after the other (fieldsOf)
 --     openBytes, bookBytes       a book without its end, and with it
 --     begun, withCurve, withClaim     nothing but a version, and one more: its field stands after those before it (open-begun, open-curve, open-claim)
---     WellListed                 within document 01's limits: well-begun, well-curve, well-claim (every-more)
+--     WellListed                 within document 01's limits: well-begun, well-curve, well-claim
 --     listingIn                  what a book says that holds such contents (curveAt, claimAt)
 --     length-book                a book is never too long; bytes-book: and it is bytes
 use Prim.Native.Nat.{ℕ, _+_, _*_, _≤_, _<_}
@@ -12,12 +12,13 @@ use mathlib.Core.Path.{_≡_, sym, ap, subst, _∙_}
 use mathlib.Core.Bool.{true}
 use mathlib.Core.List.{List, [], _∷_, _++_, map, flatMap, append-nil, append-assoc}
 use mathlib.Mathlib.Data.List.Defs.{Forall}
-use mathlib.Mathlib.Data.List.Basic.{forall-append, forall-cons, Forall·imp}
+use mathlib.Mathlib.Data.List.Basic.{forall-cons, Forall·imp}
 use native.Mathlib.Omega.{arith}
 use lib.ListN.{length, length-append}
 use Rattle.minplus.specs.Curve.{Curve, WellFormed}
+use Rattle.numbers.specs.Lists.{forall-more, flat-more}
 use Rattle.numbers.specs.Put.{bytesOf, length-bytes}
-use Rattle.numbers.specs.Back.{Bytes, bytes-append, bytes-of}
+use Rattle.numbers.specs.Back.{Bytes, bytes-none, bytes-append, bytes-flat, bytes-of}
 use Rattle.content.specs.Layout.{curveIn, curveBytes, Statement, claimIn, claimBytes}
 use Rattle.content.specs.Sound.{WellStated}
 use Rattle.content.specs.Back.{bytes-curve, curve-small, bytes-claim, claim-small}
@@ -32,6 +33,9 @@ pub record Listing : Type 0 where
   pub version : ℕ
   pub curves : List Curve
   pub claims : List Statement
+
+abbrev pub listed : ℕ → List Curve → List Statement → Listing
+listed v curves claims = record { version = v; curves = curves; claims = claims }
 
 abbrev pub fieldsOf : {A : Type 0} → Tag → (A → List ℕ) → List A → List ℕ
 fieldsOf t bytes l = flatMap (λ x. fieldBytes t (bytes x)) l
@@ -52,13 +56,13 @@ unfolding openBytes
 bookBytes b = openBytes b ++ fieldBytes tag.End []
 
 abbrev pub begun : ℕ → Listing
-begun v = record { version = v; curves = []; claims = [] }
+begun v = listed v [] []
 
 abbrev pub withCurve : Listing → Curve → Listing
-withCurve b f = record { version = b .version; curves = b .curves ++ (f ∷ []); claims = b .claims }
+withCurve b f = listed (b .version) (b .curves ++ (f ∷ [])) (b .claims)
 
 abbrev pub withClaim : Listing → Statement → Listing
-withClaim b c = record { version = b .version; curves = b .curves; claims = b .claims ++ (c ∷ []) }
+withClaim b c = listed (b .version) (b .curves) (b .claims ++ (c ∷ []))
 
 pub record WellListed (b : Listing) : Type 0 where
   pub version-known : isVersion (b .version) ≡ true
@@ -74,21 +78,11 @@ abbrev pub claimAt : List ℕ → ℕ → Statement
 claimAt s p = claimIn (contentAt s p)
 
 abbrev pub listingIn : List ℕ → Contents → Listing
-listingIn s c = record { version = c .version; curves = map (curveAt s) (c .curves); claims = map (claimAt s) (c .claims) }
+listingIn s c = listed (c .version) (map (curveAt s) (c .curves)) (map (claimAt s) (c .claims))
 
 -- ---- laws
 
-pub every-more : {A : Type 0} (P : A → Type 0) (l : List A) (x : A) → Forall P l → P x → Forall P (l ++ (x ∷ []))
-unfolding Forall
-every-more P l x all here = forall-append P l (x ∷ []) .1 (all, here)
-
 module _ {A : Type 0} (t : Tag) (bytes : A → List ℕ) where
-  pub fields-more : (l : List A) (x : A) → fieldsOf t bytes (l ++ (x ∷ [])) ≡ fieldsOf t bytes l ++ fieldBytes t (bytes x)
-  unfolding flatMap
-  fields-more [] x = append-nil (fieldBytes t (bytes x))
-  fields-more (y ∷ l) x =
-      ap (λ (r : List ℕ). fieldBytes t (bytes y) ++ r) (fields-more l x) ∙ sym (append-assoc (fieldBytes t (bytes y)) (fieldsOf t bytes l) (fieldBytes t (bytes x)))
-
   -- each field is three bytes longer than its content
   length-fields : (k : ℕ) (l : List A) → Forall (λ x. length (bytes x) ≤ k) l → length (fieldsOf t bytes l) ≤ (3 + k) * length l
   unfolding flatMap
@@ -99,9 +93,7 @@ module _ {A : Type 0} (t : Tag) (bytes : A → List ℕ) where
       omega (arith, rest, both .0, length-append (fieldBytes t (bytes x)) (fieldsOf t bytes l), length-field t (bytes x))
 
   bytes-fields : ((x : A) → Bytes (bytes x)) → (l : List A) → Bytes (fieldsOf t bytes l)
-  unfolding flatMap
-  bytes-fields small [] = λ n lt. absurd (omega (arith, lt))
-  bytes-fields small (x ∷ l) = bytes-append (fieldBytes t (bytes x)) (fieldsOf t bytes l) (bytes-field t (bytes x) (small x)) (bytes-fields small l)
+  bytes-fields small = bytes-flat (λ (x : A). fieldBytes t (bytes x)) (λ x. bytes-field t (bytes x) (small x))
 
 pub open-begun : (v : ℕ) → openBytes (begun v) ≡ fieldBytes tag.Version (bytesOf 1 v)
 unfolding openBytes
@@ -126,7 +118,7 @@ module _ (b : Listing) where
   open-curve f none-yet =
       let new : List ℕ = fieldBytes tag.Curve (curveBytes f) in
       rw none-yet
-      (ap (λ (r : List ℕ). first ++ r) (append-nil (curveFields (b .curves ++ (f ∷ []))) ∙ fields-more tag.Curve curveBytes (b .curves) f)
+      (ap (λ (r : List ℕ). first ++ r) (append-nil (curveFields (b .curves ++ (f ∷ []))) ∙ flat-more (λ (g : Curve). fieldBytes tag.Curve (curveBytes g)) (b .curves) f)
       ∙ sym (append-assoc first curves new)
       ∙ ap (λ (r : List ℕ). (first ++ r) ++ new) (sym (append-nil curves)))
 
@@ -134,7 +126,7 @@ module _ (b : Listing) where
   unfolding openBytes
   open-claim c =
       let new : List ℕ = fieldBytes tag.Claim (claimBytes c) in
-      ap (λ (r : List ℕ). first ++ r) (ap (λ (r : List ℕ). curves ++ r) (fields-more tag.Claim claimBytes (b .claims) c) ∙ sym (append-assoc curves claims new))
+      ap (λ (r : List ℕ). first ++ r) (ap (λ (r : List ℕ). curves ++ r) (flat-more (λ (d : Statement). fieldBytes tag.Claim (claimBytes d)) (b .claims) c) ∙ sym (append-assoc curves claims new))
       ∙ sym (append-assoc first (curves ++ claims) new)
 
   pub bytes-book : Bytes (bookBytes b)
@@ -143,7 +135,7 @@ module _ (b : Listing) where
       bytes-append (first ++ (curves ++ claims)) last
       (bytes-append first (curves ++ claims) (bytes-field tag.Version (bytesOf 1 (b .version)) (bytes-of 1 (b .version)))
       (bytes-append curves claims (bytes-fields tag.Curve curveBytes bytes-curve (b .curves)) (bytes-fields tag.Claim claimBytes bytes-claim (b .claims))))
-      (bytes-field tag.End [] (λ n lt. absurd (omega (arith, lt))))
+      (bytes-field tag.End [] bytes-none)
 
   -- 4 bytes of a version, 16 curves of 1,035, 256 claims of 10 and 3 of the end
   pub length-book : WellListed b → length (bookBytes b) ≤ 19_127
@@ -175,7 +167,7 @@ module _ {b : Listing} (w : WellListed b) where
     version-known = w .version-known;
     curves-fit = omega (arith, length-append (b .curves) (f ∷ []), room);
     claims-fit = w .claims-fit;
-    each-curve = every-more WellFormed (b .curves) f (w .each-curve) well;
+    each-curve = forall-more WellFormed (b .curves) f (w .each-curve) well;
     each-claim = subst (Forall (WellStated (length (b .curves ++ (f ∷ []))))) (sym none-yet) tt;
   }
 
@@ -185,5 +177,5 @@ module _ {b : Listing} (w : WellListed b) where
     curves-fit = w .curves-fit;
     claims-fit = omega (arith, length-append (b .claims) (c ∷ []), room);
     each-curve = w .each-curve;
-    each-claim = every-more (WellStated (length (b .curves))) (b .claims) c (w .each-claim) well;
+    each-claim = forall-more (WellStated (length (b .curves))) (b .claims) c (w .each-claim) well;
   }

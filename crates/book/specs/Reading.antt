@@ -3,8 +3,8 @@
 --     Contents         a sound book: its version, and at which byte the field of each curve and each claim begins
 --     Read             what any list of bytes is
 --     readOn, readFrom     field by field, from a state on
---     readBook         a book
-use Prim.Native.Nat.{ℕ, zero, suc, _+_}
+--     readBook         a book: of at most maxBytes, from start on
+use Prim.Native.Nat.{ℕ, zero, suc}
 use mathlib.Core.Bool.{true, false}
 use mathlib.Core.List.{List, [], _∷_, _++_}
 use lib.ListN.{length}

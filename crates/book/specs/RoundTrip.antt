@@ -10,15 +10,16 @@ use mathlib.Core.Path.{_≡_, refl, sym, ap, ap₂, subst, _∙_}
 use mathlib.Core.Bool.{Bool, true, false, not}
 use mathlib.Core.List.{List, [], _∷_, _++_, map, map-append, flatMap, append-nil, append-assoc}
 use mathlib.Mathlib.Data.List.Defs.{Forall}
-use mathlib.Mathlib.Data.List.Basic.{forall-cons}
+use mathlib.Mathlib.Data.List.Basic.{forall-cons, forall-map-iff, Forall·imp}
 use native.Mathlib.Omega.{arith}
 use lib.ListN.{length, take, drop, length-append, length-map}
-use lib.Seq.{drop-at, drop-drop, take-all, take-length}
+use lib.Seq.{drop-at, drop-drop, take-length}
 use lib.Dec.{ltb, eqb}
 use borrow.Author.Tests.{eqb-true, eqb-false, not-true, le-ltb, lt-leb}
 use Rattle.minplus.specs.Search.{both-true}
 use Rattle.minplus.specs.Curve.{Curve, WellFormed}
 use Rattle.curve.specs.Filled.{listOf}
+use Rattle.numbers.specs.Lists.{length-zero}
 use Rattle.numbers.specs.Numbers.{numberAt}
 use Rattle.numbers.specs.Put.{bytesOf, length-bytes}
 use Rattle.numbers.specs.Back.{Bytes}
@@ -37,8 +38,8 @@ use Rattle.field.specs.Steps.{maxCurves, maxClaims, isVersion, contentFault, in
 use Rattle.field.specs.Back.{version-fits, begun-on, version-back, version-taken, version-sound, version-again, field-taken, content-bytes, field-again, end-last}
 use Rattle.book.specs.Reading.{Contents, Read, sound, refused, maxBytes, start, readOn, readFrom, readBook}
 use Rattle.book.specs.Ground.{w8, w8-contents, w8-read}
-use Rattle.book.specs.Sound.{Each, SoundCurve, SoundClaim, sound-book, read-steps}
-use Rattle.book.specs.Listing.{Listing, fieldsOf, curveFields, claimFields, openBytes, bookBytes, begun, withCurve, withClaim, WellListed, curveAt, claimAt, listingIn, open-begun, open-curve, open-claim, length-book}
+use Rattle.book.specs.Sound.{sound-book, read-steps}
+use Rattle.book.specs.Listing.{Listing, listed, fieldsOf, curveFields, claimFields, openBytes, bookBytes, begun, withCurve, withClaim, WellListed, curveAt, claimAt, listingIn, open-begun, open-curve, open-claim, length-book}
 
 abbrev held : State → List ℕ → List ℕ → Contents
 held st curves claims = record { version = st .version; curves = curves; claims = claims }
@@ -120,9 +121,6 @@ reached-version v post right r =
 
 map-more : {A : Type 0} (g : ℕ → A) (l : List ℕ) (p : ℕ) {m : List A} {x : A} → map g l ≡ m → g p ≡ x → map g (l ++ (p ∷ [])) ≡ m ++ (x ∷ [])
 map-more {A} g l p e e′ = map-append g l (p ∷ []) ∙ ap₂ (λ (m : List A) (x : A). m ++ (x ∷ [])) e e′
-
-abbrev listed : ℕ → List Curve → List Statement → Listing
-listed v curves claims = record { version = v; curves = curves; claims = claims }
 
 module _ {s : List ℕ} (v : ℕ) (right : isVersion v ≡ true) where
   reached-curve : (l : List Curve) (f : Curve) (post : List ℕ) → length l < maxCurves → WellFormed f
@@ -279,7 +277,7 @@ module _ {s : List ℕ} (small : Bytes s) {st : State} {curves claims : List ℕ
       let taken = takes s st tag.Curve next e in
       let order = both-true (not (eqb (st .version) 0)) (eqb (st .claims) 0) .0 (taken .ordered) in
       let same : next .version ≡ st .version = ap (λ (x : State). x .version) (taken .then) in
-      let none-yet : claims ≡ [] = sym (take-all 0 claims (omega (arith, r .claim-count, eqb-true (st .claims) 0 (order .1)))) in
+      let none-yet : claims ≡ [] = length-zero claims (sym (r .claim-count) ∙ eqb-true (st .claims) 0 (order .1)) in
       let lists : listingIn s (held next (curves ++ (st .place ∷ [])) claims) ≡ withCurve says (curveIn content) = λ i. record {
         version = same i;
         curves = map-append (curveAt s) curves (st .place ∷ []) i;
@@ -312,25 +310,21 @@ module _ {s : List ℕ} (small : Bytes s) {st : State} {curves claims : List ℕ
       ap₂ (λ (x c : List ℕ). x ++ fieldBytes tag.End c) (sym (opened-so (r .so-far) (taken .ordered))) (sym (last .0))
       ∙ sym (field-again taken small) ∙ ap (λ (k : ℕ). take k s) (last .1) ∙ take-length s
 
-abbrev contentsIn : Read → Contents → Contents
-contentsIn (sound c) other = c
-contentsIn (refused x p) other = other
-
 rewritten-from : {s : List ℕ} → Bytes s → (c : Contents) (k : ℕ) (st : State) (curves claims : List ℕ) → Rewritten s st curves claims
     → readFrom k s st curves claims ≡ sound c → bookBytes (listingIn s c) ≡ s
 unfolding readFrom
-rewritten-from small c zero st curves claims r e = let z : _≡_ {A = ℕ} 0 1 = cc in absurd (omega (arith, z))
+rewritten-from small c zero st curves claims r e = cc
 rewritten-from {s} small c (suc k) st curves claims r e = go (stepAt s st) refl (rewritten-from small c k) e
   where
     go : (f : Field) → stepAt s st ≡ f
         → ((st : State) (curves claims : List ℕ) → Rewritten s st curves claims → readFrom k s st curves claims ≡ sound c → bookBytes (listingIn s c) ≡ s)
         → readOn (readFrom k s) f st curves claims ≡ sound c → bookBytes (listingIn s c) ≡ s
-    go (field.Refused x p) is later e = let z : _≡_ {A = ℕ} 0 1 = cc in absurd (omega (arith, z))
+    go (field.Refused x p) is later e = cc
     go (field.Taken tag.Version next) is later e = later next _ _ (rewritten-version small r next is) e
     go (field.Taken tag.Curve next) is later e = later next _ _ (rewritten-curve small r next is) e
     go (field.Taken tag.Claim next) is later e = later next _ _ (rewritten-claim small r next is) e
     go (field.Taken tag.End next) is later e =
-        subst (λ (x : Contents). bookBytes (listingIn s x) ≡ s) (ap (λ (x : Read). contentsIn x c) e) (rewritten-end small r next is)
+        let same : held st curves claims ≡ c = cc in subst (λ (x : Contents). bookBytes (listingIn s x) ≡ s) same (rewritten-end small r next is)
 
 pub read-written : (s : List ℕ) (c : Contents) → Bytes s → readBook s ≡ sound c → bookBytes (listingIn s c) ≡ s
 unfolding readBook
@@ -338,16 +332,9 @@ read-written s c small e = go (ltb maxBytes (length s)) e
   where
     go : (b : Bool) → elim b as (λ _. Read) [ true ↦ refused BookTooLong 0 | false ↦ readFrom (suc (length s)) s start [] [] ] ≡ sound c
         → bookBytes (listingIn s c) ≡ s
-    go true e = let z : _≡_ {A = ℕ} 0 1 = cc in absurd (omega (arith, z))
+    go true e = cc
     go false e =
         rewritten-from small c (suc (length s)) start [] [] (record { inside = omega arith; claim-count = refl; so-far = nothing refl refl refl refl }) e
-
--- of each place, and so of what is read there
-each-listed : {A : Type 0} (P : ℕ → Type 0) (Q : A → Type 0) (g : ℕ → A) → ((p : ℕ) → P p → Q (g p)) → (l : List ℕ) → Each P l → Forall Q (map g l)
-unfolding Forall
-each-listed P Q g so [] each = tt
-each-listed P Q g so (p ∷ l) each =
-    forall-cons Q (g p) (map g l) .1 (so p (each 0 (omega arith)), each-listed P Q g so l (λ k lt. each (suc k) (omega (arith, lt))))
 
 pub read-well : (s : List ℕ) (c : Contents) → readBook s ≡ sound c → WellListed (listingIn s c)
 read-well s c e =
@@ -357,11 +344,11 @@ read-well s c e =
       version-known = b .version-known;
       curves-fit = omega (arith, count, b .curves-fit);
       claims-fit = omega (arith, length-map (c .claims) (claimAt s), b .claims-fit);
-      each-curve = each-listed (SoundCurve s) WellFormed (curveAt s) (λ p so. curve-well-formed (contentAt s p) so) (c .curves) (b .each-curve);
+      each-curve = forall-map-iff (c .curves) WellFormed (curveAt s) .1 (Forall·imp (λ p so. curve-well-formed (contentAt s p) so) (c .curves) (b .each-curve));
       each-claim =
           subst (λ (n : ℕ). Forall (WellStated n) (map (claimAt s) (c .claims))) (sym count)
-          (each-listed (SoundClaim s (length (c .curves))) (WellStated (length (c .curves))) (claimAt s) (λ p so. claim-sound (length (c .curves)) (contentAt s p) so .1)
-          (c .claims) (b .each-claim));
+          (forall-map-iff (c .claims) (WellStated (length (c .curves))) (claimAt s) .1
+          (Forall·imp (λ p so. claim-sound (length (c .curves)) (contentAt s p) so .1) (c .claims) (b .each-claim)));
     }
 
 -- ---- document 01's book in full: what is supposed above can be had
@@ -380,7 +367,7 @@ pub w8-written : bookBytes w8-listing ≡ w8
 unfolding bookBytes bytesOf w8-listing w8
 w8-written = refl
 
-pub w8-says : listingIn w8 w8-contents ≡ w8-listing
+w8-says : listingIn w8 w8-contents ≡ w8-listing
 unfolding w8-listing w8 w8-contents numberAt listOf thirdWidth
 w8-says = refl
 

@@ -1,6 +1,6 @@
 -- What reading a book tells.
 --
---     SoundBook s c        of a book that is not refused: its version, its counts, and that each curve's and each claim's content is sound
+--     SoundBook s c        of a book that is not refused: its version, its counts, and that each curve's and each claim's content is sound (SoundCurve, SoundClaim)
 --     Means                of a refused one: its place is in the book, or where the book ends, and within the first 32,768 bytes
 --     read-means           every list of bytes
 --     read-steps           a step more changes nothing: no answer is for want of steps
@@ -10,13 +10,13 @@ use mathlib.Core.Path.{_≡_, refl, sym, ap, subst, _∙_}
 use mathlib.Core.Bool.{Bool, true, false, not}
 use mathlib.Core.List.{List, [], _∷_, _++_}
 use mathlib.Core.Logic.{_⊎_, inl, inr}
+use mathlib.Mathlib.Data.List.Defs.{Forall}
 use native.Mathlib.Omega.{arith}
-use native.Mathlib.Nat.{eq-or-lt-of-le}
-use lib.ListN.{length, getD, length-append, List·getD-append}
-use lib.Seq.{getD-at}
+use lib.ListN.{length, length-append}
 use lib.Dec.{ltb, eqb}
 use borrow.Author.Tests.{leb-false, eqb-true, eqb-false, not-true, ltb-false}
 use Rattle.minplus.specs.Search.{both-true}
+use Rattle.numbers.specs.Lists.{forall-more, length-zero}
 use Rattle.content.specs.declared.Refusal.{Refusal}
 use Rattle.content.specs.declared.Refusal.the-variants.{BookTooLong}
 use Rattle.content.specs.declared.Checked.the-variants.{Sound, Refused}
@@ -30,10 +30,6 @@ use Rattle.field.specs.Steps.{maxCurves, maxClaims, isVersion, contentFault, in
 use Rattle.field.specs.Back.{version-sound}
 use Rattle.book.specs.Reading.{Contents, Read, sound, refused, maxBytes, start, readOn, readFrom, readBook}
 
--- of every member of a list
-abbrev pub Each : (ℕ → Type 0) → List ℕ → Type 0
-Each P l = (k : ℕ) → k < length l → P (getD l k 0)
-
 -- a curve, and a claim that names curves of a book that has so many, at a place
 abbrev pub SoundCurve : List ℕ → ℕ → Type 0
 SoundCurve s p = curveFault (contentAt s p) ≡ Sound
@@ -45,27 +41,14 @@ pub record SoundBook (s : List ℕ) (c : Contents) : Type 0 where
   pub version-known : isVersion (c .version) ≡ true
   pub curves-fit : length (c .curves) ≤ maxCurves
   pub claims-fit : length (c .claims) ≤ maxClaims
-  pub each-curve : Each (SoundCurve s) (c .curves)
-  pub each-claim : Each (SoundClaim s (length (c .curves))) (c .claims)
+  pub each-curve : Forall (SoundCurve s) (c .curves)
+  pub each-claim : Forall (SoundClaim s (length (c .curves))) (c .claims)
 
 abbrev pub Means : List ℕ → Read → Type 0
 Means s (sound c) = SoundBook s c
 Means s (refused x p) = (p ≤ length s) × (p ≤ maxBytes)
 
 -- ---- laws
-
-each-none : (P : ℕ → Type 0) (l : List ℕ) → length l ≡ 0 → Each P l
-each-none P l e k lt = absurd (omega (arith, e, lt))
-
-each-more : (P : ℕ → Type 0) (l : List ℕ) (x : ℕ) → Each P l → P x → Each P (l ++ (x ∷ []))
-each-more P l x each here k lt = go (eq-or-lt-of-le last)
-  where
-    last : k ≤ length l
-    last = let e : length (l ++ (x ∷ [])) ≡ length l + 1 = length-append l (x ∷ []) in omega (arith, e, lt)
-
-    go : (k ≡ length l) ⊎ (k < length l) → P (getD (l ++ (x ∷ [])) k 0)
-    go (inl e) = subst P (sym (getD-at l x [] 0 k (sym e))) here
-    go (inr less) = subst P (sym (List·getD-append l (x ∷ []) 0 k less)) (each k less)
 
 -- where a reader stands, with the places of what it has read: what holds of these so far
 record Kept (s : List ℕ) (st : State) (curves claims : List ℕ) : Type 0 where
@@ -74,8 +57,8 @@ record Kept (s : List ℕ) (st : State) (curves claims : List ℕ) : Type 0 wher
   claim-count : st .claims ≡ length claims
   curves-fit : length curves ≤ maxCurves
   claims-fit : length claims ≤ maxClaims
-  each-curve : Each (SoundCurve s) curves
-  each-claim : Each (SoundClaim s (length curves)) claims
+  each-curve : Forall (SoundCurve s) curves
+  each-claim : Forall (SoundClaim s (length curves)) claims
   inside : st .place ≤ length s
   short : length s ≤ maxBytes
 
@@ -98,7 +81,7 @@ module _ {s : List ℕ} {st : State} {curves claims : List ℕ} (kept : Kept s s
       }
 
   kept-curve : stepAt s st ≡ field.Taken tag.Curve next → Kept s next (curves ++ (st .place ∷ [])) claims
-  unfolding after contentFault inOrder full
+  unfolding after contentFault inOrder full Forall
   kept-curve e =
       let taken = takes s st tag.Curve next e in
       let one-more : length (curves ++ (st .place ∷ [])) ≡ length curves + 1 = length-append curves (st .place ∷ []) in
@@ -109,8 +92,8 @@ module _ {s : List ℕ} {st : State} {curves claims : List ℕ} (kept : Kept s s
         claim-count = ap (λ (x : State). x .claims) (taken .then) ∙ kept .claim-count;
         curves-fit = let below : st .curves < maxCurves = leb-false _ _ (taken .room) in omega (arith, one-more, kept .curve-count, below);
         claims-fit = kept .claims-fit;
-        each-curve = each-more (SoundCurve s) curves (st .place) (kept .each-curve) (taken .content);
-        each-claim = each-none (SoundClaim s (length (curves ++ (st .place ∷ [])))) claims (sym (kept .claim-count) ∙ none-yet);
+        each-curve = forall-more (SoundCurve s) curves (st .place) (kept .each-curve) (taken .content);
+        each-claim = subst (Forall (SoundClaim s (length (curves ++ (st .place ∷ []))))) (sym (length-zero claims (sym (kept .claim-count) ∙ none-yet))) tt;
         inside = next-inside taken (kept .inside) .1;
         short = kept .short;
       }
@@ -128,7 +111,7 @@ module _ {s : List ℕ} {st : State} {curves claims : List ℕ} (kept : Kept s s
         claims-fit = let below : st .claims < maxClaims = leb-false _ _ (taken .room) in omega (arith, one-more, kept .claim-count, below);
         each-curve = kept .each-curve;
         each-claim =
-            each-more (SoundClaim s (length curves)) claims (st .place) (kept .each-claim)
+            forall-more (SoundClaim s (length curves)) claims (st .place) (kept .each-claim)
             (subst (λ (n : ℕ). SoundClaim s n (st .place)) (kept .curve-count) (taken .content));
         inside = next-inside taken (kept .inside) .1;
         short = kept .short;
@@ -162,7 +145,7 @@ read-from (suc k) s st curves claims kept = go (stepAt s st) refl (read-from k s
     go (field.Taken tag.End next) e later = kept-end kept next e
 
 pub read-means : (s : List ℕ) → Means s (readBook s)
-unfolding readBook
+unfolding readBook Forall
 read-means s = go (ltb maxBytes (length s)) refl
   where
     begun : length s ≤ maxBytes → Kept s start [] []
@@ -172,8 +155,8 @@ read-means s = go (ltb maxBytes (length s)) refl
       claim-count = refl;
       curves-fit = omega arith;
       claims-fit = omega arith;
-      each-curve = each-none (SoundCurve s) [] refl;
-      each-claim = each-none (SoundClaim s 0) [] refl;
+      each-curve = tt;
+      each-claim = tt;
       inside = omega arith;
       short = fits;
     }

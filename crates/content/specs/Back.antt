@@ -1,6 +1,6 @@
 -- Reading and writing a content undo each other.
 --
---     values-bytes-more     one value more at the end; length-values, length-curve, length-claim: how many bytes are written; curve-small, claim-small: at most
+--     length-values, length-curve, length-claim     how many bytes are written; curve-small, claim-small: at most
 --     curve-back            of a well formed curve's bytes that curve is read, and they are not refused (curve-taken)
 --     curve-again           a content that is not refused is the bytes of the curve that it says
 --     claim-back, claim-taken, claim-again     the same for a claim, of at most 256 curves
@@ -8,7 +8,7 @@
 use Prim.Native.Nat.{ℕ, zero, suc, _+_, _*_, _^_, _≤_, _<_}
 use mathlib.Core.Path.{_≡_, refl, sym, ap, ap₂, _∙_}
 use mathlib.Core.Bool.{false, not}
-use mathlib.Core.List.{List, [], _∷_, _++_, append-nil, append-assoc}
+use mathlib.Core.List.{List, [], _∷_, _++_, flatMap, append-nil}
 use native.Mathlib.Omega.{arith}
 use lib.ListN.{length, take, drop, getD}
 use lib.Seq.{take-all, take-add, drop-drop, ext-getD}
@@ -17,9 +17,10 @@ use borrow.Author.Tests.{ltb-false, eqb-true, not-false, le-ltb, eq-eqb}
 use Rattle.minplus.specs.Curve.{Curve, WellFormed, count}
 use Rattle.minplus.specs.Claim.{Kind, result, bound, sum, minimum, convolution, delay, backlog, atMost, exactly, maxX, kindNumber, kind-by}
 use Rattle.curve.specs.Filled.{listOf, length-listOf, listOf-at}
+use Rattle.numbers.specs.Lists.{flat-more}
 use Rattle.numbers.specs.Numbers.{numberAt}
 use Rattle.numbers.specs.Put.{bytesOf, length-bytes}
-use Rattle.numbers.specs.Back.{Bytes, bytes-append, bytes-of, length-then, number-on, number-front, bytes-again, bytes-then}
+use Rattle.numbers.specs.Back.{Bytes, bytes-append, bytes-flat, bytes-of, length-then, number-on, number-front, bytes-again, bytes-then}
 use Rattle.content.specs.declared.Refusal.the-variants.{CurveLength, CurvePeriod, WrongClaim}
 use Rattle.content.specs.declared.Checked.the-variants.{Sound}
 use Rattle.content.specs.Layout.{rankIn, periodIn, incrementIn, countIn, curveHead, valueIn, curveIn, valuesBytes, curveBytes, Statement, idIn, thirdWidth, claimIn, claimLength, claimBytes, third-small}
@@ -28,19 +29,13 @@ use Rattle.content.specs.Sound.{well-span, well-limits, WellStated, well
 
 -- ---- a curve's values
 
-pub values-bytes-more : (l : List ℕ) (v : ℕ) → valuesBytes (l ++ (v ∷ [])) ≡ valuesBytes l ++ bytesOf 4 v
-unfolding valuesBytes
-values-bytes-more [] v = append-nil (bytesOf 4 v)
-values-bytes-more (u ∷ l) v =
-    ap (λ (t : List ℕ). bytesOf 4 u ++ t) (values-bytes-more l v) ∙ sym (append-assoc (bytesOf 4 u) (valuesBytes l) (bytesOf 4 v))
-
 pub length-values : (l : List ℕ) → length (valuesBytes l) ≡ 4 * length l
-unfolding valuesBytes
+unfolding flatMap
 length-values [] = refl
 length-values (v ∷ l) = length-then 4 v (valuesBytes l) ∙ rw (length-values l) (omega arith)
 
 value-back : (l : List ℕ) (n : ℕ) → n < length l → getD l n 0 < 256 ^ 4 → numberAt 4 (valuesBytes l) (4 * n) ≡ getD l n 0
-unfolding valuesBytes
+unfolding flatMap
 value-back [] n lt small = absurd (omega (arith, lt))
 value-back (v ∷ l) zero lt small = number-front 4 v (valuesBytes l) small
 value-back (v ∷ l) (suc n) lt small =
@@ -51,19 +46,14 @@ value-back (v ∷ l) (suc n) lt small =
 -- what is read from 8 on, written
 values-again : (content : List ℕ) → Bytes content → (n : ℕ) → curveHead + 4 * n ≤ length content
     → valuesBytes (listOf (valueIn content) n) ≡ take (4 * n) (drop curveHead content)
-unfolding valuesBytes listOf
+unfolding flatMap listOf
 values-again content small zero fits = refl
 values-again content small (suc n) fits =
     let at : 4 * suc n ≡ 4 * n + 4 = omega arith in
-    values-bytes-more (listOf (valueIn content) n) (valueIn content n)
+    flat-more (bytesOf 4) (listOf (valueIn content) n) (valueIn content n)
     ∙ ap₂ (λ (x y : List ℕ). x ++ y) (values-again content small n (omega (arith, fits)))
     (bytes-again 4 (curveHead + 4 * n) content small (omega (arith, fits)) ∙ ap (take 4) (sym (drop-drop (4 * n) curveHead content)))
     ∙ sym (ap (λ (k : ℕ). take k (drop curveHead content)) at ∙ take-add (4 * n) 4 (drop curveHead content))
-
-bytes-values : (l : List ℕ) → Bytes (valuesBytes l)
-unfolding valuesBytes
-bytes-values [] = λ n lt. absurd (omega (arith, lt))
-bytes-values (v ∷ l) = bytes-append (bytesOf 4 v) (valuesBytes l) (bytes-of 4 v) (bytes-values l)
 
 -- ---- a curve
 
@@ -135,7 +125,7 @@ pub bytes-curve : (f : Curve) → Bytes (curveBytes f)
 unfolding curveBytes
 bytes-curve f =
     bytes-append (bytesOf 2 (f .rank)) _ (bytes-of 2 (f .rank))
-    (bytes-append (bytesOf 2 (f .period)) _ (bytes-of 2 (f .period)) (bytes-append (bytesOf 4 (f .increment)) _ (bytes-of 4 (f .increment)) (bytes-values (f .listed))))
+    (bytes-append (bytesOf 2 (f .period)) _ (bytes-of 2 (f .period)) (bytes-append (bytesOf 4 (f .increment)) _ (bytes-of 4 (f .increment)) (bytes-flat (bytesOf 4) (bytes-of 4) (f .listed))))
 
 pub curve-again : (content : List ℕ) → Bytes content → curveFault content ≡ Sound → curveBytes (curveIn content) ≡ content
 unfolding curveFault curveBytes

@@ -1,7 +1,7 @@
 -- The contents of curves and claims. Document 01, 'The book': "numbers high byte first".
 --
 --     rankIn, periodIn, incrementIn   "01: T (2), d (2), c (4), then T+d values (4 each)": read from a content
---     countIn, valueIn, curveIn
+--     countIn, valueIn, curveIn       (curveHead: the bytes of T, d and c)
 --     curveBytes, valuesBytes         the same, written
 --     Statement, claimIn              "02: kind, left, right (1 each), then h (1) for kinds 1 to 3 or X (4) for 4 to 7": read from a content
 --     thirdWidth, claimLength         (at most 4: third-small)
@@ -10,7 +10,7 @@
 use Prim.Native.Nat.{ℕ, _+_, _*_, _≤_, _<_}
 use mathlib.Core.Path.{_≡_, ap}
 use mathlib.Core.Bool.{Bool, true, false}
-use mathlib.Core.List.{List, [], _∷_, _++_}
+use mathlib.Core.List.{List, _++_, flatMap}
 use mathlib.Core.Option.{Option, some}
 use native.Mathlib.Omega.{arith}
 use lib.Dec.{ltb}
@@ -51,12 +51,11 @@ curveIn content = record {
   listed = listOf (valueIn content) (countIn content);
 }
 
-unfoldable pub valuesBytes : List ℕ → List ℕ
-valuesBytes [] = []
-valuesBytes (v ∷ values) = bytesOf 4 v ++ valuesBytes values
+abbrev pub valuesBytes : List ℕ → List ℕ
+valuesBytes values = flatMap (bytesOf 4) values
 
 unfoldable pub curveBytes : Curve → List ℕ
-unfolding valuesBytes
+unfolding flatMap
 curveBytes f = bytesOf 2 (f .rank) ++ (bytesOf 2 (f .period) ++ (bytesOf 4 (f .increment) ++ valuesBytes (f .listed)))
 
 -- ---- claim

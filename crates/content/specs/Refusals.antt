@@ -2,17 +2,17 @@
 --
 --     numberOf         the number of each refusal
 --     on               a test that refuses, before what is tried after it
---     noSpan, limitFault     what is refused of a curve by its numbers
+--     noSpan, limitFault     what is refused of a curve by its numbers, over valuesFit and valuesRise
 --     listedFault      a curve and a list of values, as the writer gets them; curveFault: a content, as the reader does
---     statementFault   a claim by its numbers; claimFault: a content
---     statementField, claimField     the same, with what is stated where nothing is refused
+--     statementFault   a claim by its numbers, by kindFault over noneNamed, lastId and farX; claimFault: a content
+--     statedOf         a claim as a value: claimedOf, its claimed curve
+--     statementField, claimField     the same, with what is stated where nothing is refused (stated, statedOr)
 --     on-sound, or-false     what is known where nothing was refused; claim-odd, claim-whole: by the length of a claim's content
 use Prim.Native.Nat.{ℕ, suc, _+_, _-_, _*_}
 use mathlib.Core.Path.{_≡_, refl}
 use mathlib.Core.Bool.{Bool, true, false, _||_, not, true≢false}
 use mathlib.Core.List.{List}
 use mathlib.Core.Option.{Option, none, some}
-use native.Mathlib.Omega.{arith}
 use lib.ListN.{length, getD}
 use lib.Dec.{leb, ltb, eqb}
 use borrow.Author.Tests.{eq-eqb, ne-eqb}
@@ -157,7 +157,7 @@ claimField curves content =
 -- ---- laws
 
 pub on-sound : (b : Bool) (x : Refusal) (later : Checked) → on b x later ≡ Sound → (b ≡ false) × (later ≡ Sound)
-on-sound true x later e = let z : _≡_ {A = ℕ} 0 1 = cc in absurd (omega (arith, z))
+on-sound true x later e = (cc, cc)
 on-sound false x later e = (refl, e)
 
 pub or-false : (a b : Bool) → a || b ≡ false → (a ≡ false) × (b ≡ false)

@@ -3,7 +3,7 @@ ghost use mathlib.Core.Path.{_≡_};
 ghost use Rattle.numbers.specs.Numbers.{numberAt};
 ghost use Rattle.content.specs.Layout.{thirdWidth};
 ghost use Rattle.content.specs.Refusals.{on, noneNamed, statedOr, statementField, statementFault, claimField, claimFault};
-ghost use Rattle.content.specs.Claims.{refusalIn};
+ghost use Rattle.content.specs.Claims.{checkedIn};
 ghost use Rattle.content.specs.declared.Checked.the-variants.{Sound};
 ghost use Rattle.content.specs.declared.Refusal.the-variants.{NoSuchCurve};
 use crate::Checked;
@@ -107,8 +107,8 @@ pub fn claim_in(content: &[u8], curves: usize) -> ClaimField
     statement(kind, left, right, third_in(content, kind), curves)
 }
 
-fn refusal_in(field: ClaimField) -> Checked
-    ensures { λ r. ⌜ r ≡ refusalIn field ⌝ }
+fn checked_in(field: ClaimField) -> Checked
+    ensures { λ r. ⌜ r ≡ checkedIn field ⌝ }
 {
     match field {
         ClaimField::Refused(refusal) => Checked::Refused(refusal),
@@ -120,11 +120,11 @@ fn refusal_in(field: ClaimField) -> Checked
 pub fn statement_fault(kind: u64, left: u64, right: u64, third: u64, curves: usize) -> Checked
     ensures { λ r. ⌜ r ≡ statementFault curves (record { kind = kind; left = left; right = right; third = third }) ⌝ }
 {
-    refusal_in(statement(kind, left, right, third, curves))
+    checked_in(statement(kind, left, right, third, curves))
 }
 
 pub fn claim_fault(content: &[u8], curves: usize) -> Checked
     ensures { λ r. ⌜ r ≡ claimFault curves (now (content .entry)) ⌝ }
 {
-    refusal_in(claim_in(content, curves))
+    checked_in(claim_in(content, curves))
 }

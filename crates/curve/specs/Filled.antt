@@ -10,12 +10,12 @@
 use Prim.Native.Nat.{ℕ, zero, suc, _+_, _-_, _≤_, _<_}
 use mathlib.Core.Path.{_≡_, refl, sym, ap, _∙_}
 use mathlib.Core.List.{List, [], _∷_, _++_, append-assoc}
-use mathlib.Core.Logic.{_⊎_, inl, inr}
 use native.Mathlib.Omega.{arith}
-use native.Mathlib.Nat.{eq-or-lt-of-le, le-of-suc-le-suc, sub-zero}
+use native.Mathlib.Nat.{sub-zero}
 use native.Mathlib.Numerals.{add-one}
 use lib.ListN.{length, getD, set, take, replicate, length-append, length-replicate, List·getD-append}
 use lib.Seq.{set-at, getD-at, take-at}
+use borrow.Author.Count.{below-more}
 
 unfoldable pub inArray : ℕ → List ℕ → List ℕ
 inArray room l = l ++ replicate {A = ℕ} (room - length l) 0
@@ -48,11 +48,10 @@ length-listOf F (suc k) = simp (length-append, length-listOf F k) (omega arith)
 pub listOf-at : (F : ℕ → ℕ) (k i : ℕ) → i < k → getD (listOf F k) i 0 ≡ F i
 unfolding listOf
 listOf-at F zero i lt = absurd (omega (arith, lt))
-listOf-at F (suc k) i lt = go (eq-or-lt-of-le (le-of-suc-le-suc lt)) (listOf-at F k i)
-  where
-    go : (i ≡ k) ⊎ (i < k) → (i < k → getD (listOf F k) i 0 ≡ F i) → getD (listOf F k ++ (F k ∷ [])) i 0 ≡ F i
-    go (inl e) before = getD-at (listOf F k) (F k) [] 0 i (length-listOf F k ∙ sym e) ∙ ap F (sym e)
-    go (inr less) before = List·getD-append (listOf F k) (F k ∷ []) 0 i (omega (arith, length-listOf F k)) ∙ before less
+listOf-at F (suc k) i lt =
+    below-more (λ j. getD (listOf F k ++ (F k ∷ [])) j 0 ≡ F j) k
+    (λ j less. List·getD-append (listOf F k) (F k ∷ []) 0 j (omega (arith, length-listOf F k)) ∙ listOf-at F k j less)
+    (getD-at (listOf F k) (F k) [] 0 k (length-listOf F k)) i (omega arith)
 
 pub filled-none : (F : ℕ → ℕ) (room : ℕ) → filled F room 0 ≡ replicate {A = ℕ} room 0
 unfolding filled

@@ -1,7 +1,7 @@
 -- The curve that the code's values stand for.
 --
 --     heldOf, curveOf                T, d, c and the first T + d places of an array, as a curve of the crate minplus
---     padded                         a list in the working array; held-whole: what is put in is what is held; padded-listed: F(0) to F(k-1) in it
+--     padded                         a list in the working array; held-whole: what is put in is what is held; padded-listed, padded-filled: F(0) to F(k-1) in it
 --     holding                        a curve in the working copy; holding-back: of a well-formed one, it is that curve
 --     Listed                         document 01's limits on the listed values, for a loop that looks at one more each turn
 --     listed-none, listed-more       before the first turn, and after one more
@@ -10,13 +10,12 @@ use Prim.Native.Nat.{ℕ, zero, suc, _+_, _≤_, _<_, min}
 use mathlib.Core.Path.{_≡_, sym, ap, _∙_}
 use mathlib.Core.List.{List, _∷_}
 use native.Mathlib.Omega.{arith}
-use mathlib.Core.Logic.{inl, inr}
-use native.Mathlib.Nat.{eq-or-lt-of-le}
 use lib.ListN.{take, getD, length}
 use lib.Seq.{ext-getD, getD-take, length-take-le}
+use borrow.Author.Count.{below-none, below-more}
 use Rattle.minplus.specs.Curve as C
 use Rattle.curve.specs.declared.Curve.{Curve}
-use Rattle.curve.specs.Filled.{listOf, filled, length-listOf, listOf-at, filled-length, filled-at, filled-same}
+use Rattle.curve.specs.Filled.{listOf, filled, length-listOf, listOf-at, filled-length, filled-at, filled-taken, filled-same}
 
 abbrev pub heldOf : ℕ → ℕ → ℕ → List ℕ → C.Curve
 heldOf rank period increment listed = record { rank = rank; period = period; increment = increment; listed = take (rank + period) listed }
@@ -37,6 +36,12 @@ pub padded-listed : (F : ℕ → ℕ) (k : ℕ) → padded (listOf F k) ≡ fill
 padded-listed F k =
     rw (length-listOf F k)
     (filled-same (λ n. getD (listOf F k) n 0) F C.maxListed (min k C.maxListed) (λ n lt. listOf-at F k n (omega arith)))
+
+-- the stored part of an array that was filled from F, in a working array of its own
+pub padded-filled : (F : ℕ → ℕ) (n k : ℕ) → n ≡ min k C.maxListed → padded (take n (filled F C.maxListed n)) ≡ padded (listOf F k)
+padded-filled F n k e =
+    let capped : min n C.maxListed ≡ min k C.maxListed = omega (arith, e) in
+    rw (filled-taken F C.maxListed n, padded-listed F n, capped, padded-listed F k)
 
 -- what is put in is what is held
 module _ (rank period increment : ℕ) (listed : List ℕ) (whole : length listed ≡ rank + period) (fits : rank + period ≤ C.maxListed) where
@@ -59,16 +64,13 @@ pub record Listed (l : List ℕ) (count : ℕ) : Type 0 where
   pub rise : (n : ℕ) → n < count → getD (0 ∷ l) n 0 ≤ getD l n 0
 
 pub listed-none : (l : List ℕ) → Listed l 0
-listed-none l = record { fit = λ n lt. absurd (omega (arith, lt)); rise = λ n lt. absurd (omega (arith, lt)) }
+listed-none l = record { fit = below-none _; rise = below-none _ }
 
 pub listed-more : {l : List ℕ} {n : ℕ} → Listed l n → getD l n 0 ≤ C.maxUnits → getD (0 ∷ l) n 0 ≤ getD l n 0 → Listed l (n + 1)
 listed-more {l} {n} so-far fits rises = record {
-  fit = λ m lt. elim (eq-or-lt-of-le (last lt)) [ inl e ↦ rw e fits | inr less ↦ so-far .fit m less ];
-  rise = λ m lt. elim (eq-or-lt-of-le (last lt)) [ inl e ↦ rw e rises | inr less ↦ so-far .rise m less ];
+  fit = below-more (λ m. getD l m 0 ≤ C.maxUnits) n (so-far .fit) fits;
+  rise = below-more (λ m. getD (0 ∷ l) m 0 ≤ getD l m 0) n (so-far .rise) rises;
 }
-  where
-    last : {m : ℕ} → m < n + 1 → m ≤ n
-    last lt = omega arith
 
 -- of the working array, exactly the values that count have to be listed well
 module _ (rank period increment : ℕ) (l : List ℕ) where

@@ -45,7 +45,7 @@ pub over-length : (F : ℕ → ℕ) (k : ℕ) (s : List ℕ) → k ≤ length s 
 unfolding over
 over-length F k s le = simp (length-append, length-listOf F k, length-drop) (omega arith)
 
-pub over-at : (F : ℕ → ℕ) (k : ℕ) (s : List ℕ) (n : ℕ) → n < k → getD (over F k s) n 0 ≡ F n
+over-at : (F : ℕ → ℕ) (k : ℕ) (s : List ℕ) (n : ℕ) → n < k → getD (over F k s) n 0 ≡ F n
 unfolding over
 over-at F k s n lt = List·getD-append (listOf F k) (drop k s) 0 n (omega (arith, length-listOf F k)) ∙ listOf-at F k n lt
 

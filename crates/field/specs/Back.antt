@@ -18,6 +18,7 @@ use lib.Seq.{take-add, take-all, take-at, length-take-le}
 use lib.Dec.{ltb, eqb}
 use borrow.Author.Tests.{ltb-false, eqb-true, not-false, le-ltb, ne-eqb}
 use Rattle.minplus.specs.Search.{numbered, numbered-so}
+use Rattle.numbers.specs.Lists.{length-zero}
 use Rattle.numbers.specs.Numbers.{numberAt}
 use Rattle.numbers.specs.Put.{bytesOf, length-bytes}
 use Rattle.numbers.specs.Back.{Bytes, bytes-take, bytes-drop, bytes-append, bytes-of, length-then, number-on, number-front, bytes-again, bytes-then}
@@ -27,12 +28,11 @@ use Rattle.content.specs.declared.Checked.the-variants.{Sound}
 use Rattle.content.specs.Refusals.{on, on-sound}
 use Rattle.field.specs.declared.Tag.{Tag}
 use Rattle.field.specs.declared.Tag.the-variants.{Version, Curve, Claim, End}
-use Rattle.field.specs.declared.Tagged.{Tagged}
-use Rattle.field.specs.declared.Tagged.the-variants.{Known, Unknown}
+use Rattle.field.specs.declared.Tagged.the-variants.{Known}
 use Rattle.field.specs.declared.State.{State}
 use Rattle.field.specs.declared.Field.the-variants as field
 use Rattle.field.specs.Fields.{tagNumber, tags, known, tagBy, headLength, tagOf, lengthOf, contentOf, contentAt, versionIn, fieldBytes}
-use Rattle.field.specs.Steps.{isVersion, versionFault, endFault, contentFault, inOrder, full, fieldSize, taggedFault, after, answer, stepOn, stepAt, Takes, after-place}
+use Rattle.field.specs.Steps.{isVersion, versionFault, endFault, contentFault, inOrder, full, fieldSize, taggedFault, after, answer, stepOn, stepAt, Takes, next-place}
 
 -- ---- a version
 
@@ -71,17 +71,13 @@ tag-back Curve = (omega arith, refl)
 tag-back Claim = (omega arith, refl)
 tag-back End = (omega arith, refl)
 
-pub tag-number : (b : ℕ) (t : Tag) → tagBy b ≡ Known t → b ≡ tagNumber t
+tag-number : (b : ℕ) (t : Tag) → tagBy b ≡ Known t → b ≡ tagNumber t
 unfolding tagBy
 tag-number b t e = go (numbered tagNumber tags b) refl e
   where
-    tagIn : Tagged → Tag
-    tagIn Unknown = t
-    tagIn (Known t′) = t′
-
     go : (o : Option Tag) → numbered tagNumber tags b ≡ o → known o ≡ Known t → b ≡ tagNumber t
-    go none is e = let z : _≡_ {A = ℕ} 0 1 = cc in absurd (omega (arith, z))
-    go (some t′) is e = numbered-so tagNumber tags b t′ is ∙ ap tagNumber (ap tagIn e)
+    go none is e = cc
+    go (some t′) is e = let same : t′ ≡ t = cc in numbered-so tagNumber tags b t′ is ∙ ap tagNumber same
 
 -- ---- a field that was written, read
 
@@ -98,7 +94,7 @@ module _ (t : Tag) (content post : List ℕ) where
   abbrev bytes : List ℕ
   bytes = fieldBytes t content ++ post
 
-  pub field-tag : tagOf (fieldBytes t content ++ post) ≡ Known t
+  field-tag : tagOf (fieldBytes t content ++ post) ≡ Known t
   unfolding fieldBytes
   field-tag =
       ap (λ (r : List ℕ). tagBy (numberAt 1 r 0)) (append-assoc (bytesOf 1 (tagNumber t)) (bytesOf 2 (length content) ++ content) post)
@@ -117,7 +113,7 @@ module _ (t : Tag) (content post : List ℕ) where
     unfolding fieldBytes bytesOf
     rest = refl
 
-    pub field-content : contentOf (fieldBytes t content ++ post) ≡ content
+    field-content : contentOf (fieldBytes t content ++ post) ≡ content
     field-content = ap₂ (λ (n : ℕ) (r : List ℕ). take n r) field-length rest ∙ take-at content post (length content) refl
 
     size : fieldSize bytes ≡ length (fieldBytes t content)
@@ -155,9 +151,6 @@ module _ {s : List ℕ} {st : State} {t : Tag} {next : State} (taken : Takes s s
   abbrev left : List ℕ
   left = drop (st .place) s
 
-  next-place : next .place ≡ st .place + fieldSize left
-  next-place = ap (λ (x : State). x .place) (taken .then) ∙ after-place t st _ _
-
   written : Bytes s → fieldBytes t (contentOf left) ≡ take (fieldSize left) left
   unfolding fieldBytes
   written small =
@@ -172,7 +165,7 @@ module _ {s : List ℕ} {st : State} {t : Tag} {next : State} (taken : Takes s s
 
   pub field-again : Bytes s → take (next .place) s ≡ take (st .place) s ++ fieldBytes t (contentAt s (st .place))
   field-again small =
-      ap (λ (k : ℕ). take k s) next-place ∙ take-add (st .place) (fieldSize left) s ∙ ap (λ (r : List ℕ). take (st .place) s ++ r) (sym (written small))
+      ap (λ (k : ℕ). take k s) (next-place taken) ∙ take-add (st .place) (fieldSize left) s ∙ ap (λ (r : List ℕ). take (st .place) s ++ r) (sym (written small))
 
 pub end-last : {s : List ℕ} {st next : State} → Takes s st End next → st .place ≤ length s → (contentAt s (st .place) ≡ []) × (next .place ≡ length s)
 unfolding contentFault endFault
@@ -182,4 +175,4 @@ end-last {s} {st} {next} taken inside =
     let t₁ = on-sound (not (eqb (length content) 0)) WrongEnd (on (ltb 0 follow) WrongEnd Sound) (taken .content) in
     let none-left : follow ≤ 0 = ltb-false _ _ (on-sound (ltb 0 follow) WrongEnd Sound (t₁ .1) .0) in
     let empty : length content ≡ 0 = eqb-true _ _ (not-false _ (t₁ .0)) in
-    (sym (take-all 0 content (omega (arith, empty))), omega (arith, none-left, next-place taken, taken .whole, length-drop (st .place) s, inside))
+    (length-zero content empty, omega (arith, none-left, next-place taken, taken .whole, length-drop (st .place) s, inside))

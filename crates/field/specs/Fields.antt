@@ -1,7 +1,8 @@
 -- The book's fields. Document 01, 'The book': "Fields: tag (1 byte), length (2), content; numbers high byte first."
 --
---     tagNumber, tagBy                the four tags
---     lengthOf, contentOf             of the field with which a list of bytes begins
+--     tagNumber, tagBy                the four tags and their numbers (tags, known)
+--     headLength                      the bytes of tag and length
+--     tagOf, lengthOf, contentOf      of the field with which a list of bytes begins
 --     contentAt                       of the field at a place of the book
 --     versionIn                       "10 hex: version, one byte"
 --     fieldBytes                      a field, written

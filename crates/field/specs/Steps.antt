@@ -2,14 +2,15 @@
 -- order: 1 fewer than 3 bytes are left; 2 unknown tag; 3 field out of its place in the order (a second version too); 4 a 17th curve or 257th claim; 1 again, content runs past the
 -- book; then by tag".
 --
+--     maxCurves, maxClaims, isVersion     document 01's numbers
 --     versionFault, endFault, contentFault     a content, by tag
---     inOrder, full, taggedFault     a field whose tag is known
---     after            where a reader stands after a field
---     stepOn, stepAt   a field's answer
+--     inOrder, full, taggedFault     a field whose tag is known; fieldSize: how many bytes it has
+--     after            where a reader stands after a field (after-place)
+--     stepOn, stepAt   a field's answer, by tagged and answer
 --     field-cases      a field is refused at its place (refused-at), or its tests pass and it is taken
---     Takes            what is known of a field that is taken (takes); next-inside: the next place is in the book or at its end
+--     Takes            what is known of a field that is taken (takes); next-place, next-inside: the next place is in the book or at its end
 use Prim.Native.Nat.{ℕ, _+_, _-_, _≤_, _<_}
-use mathlib.Core.Path.{_≡_, refl, sym, ap, subst, _∙_}
+use mathlib.Core.Path.{_≡_, refl, ap, subst, _∙_}
 use mathlib.Core.Bool.{Bool, true, false, _&&_, not}
 use mathlib.Core.List.{List}
 use native.Mathlib.Omega.{arith}
@@ -127,18 +128,6 @@ pub record Takes (s : List ℕ) (st : State) (t : Tag) (next : State) : Type 0 w
   pub content : contentFault t (st .curves) (contentAt s (st .place)) (length (drop (st .place) s) - fieldSize (drop (st .place) s)) ≡ Sound
   pub then : next ≡ after t st (versionIn (contentAt s (st .place))) (st .place + fieldSize (drop (st .place) s))
 
-abbrev tagIn : Field → Tag → Tag
-tagIn (field.Taken t next) other = t
-tagIn (field.Refused x p) other = other
-
-abbrev nextIn : Field → State → State
-nextIn (field.Taken t next) other = next
-nextIn (field.Refused x p) other = other
-
-abbrev placeIn : Field → ℕ
-placeIn (field.Taken t next) = 0
-placeIn (field.Refused x p) = p
-
 pub after-place : (t : Tag) (st : State) (v p : ℕ) → after t st v p .place ≡ p
 unfolding after
 after-place tag.Version st v p = refl
@@ -179,10 +168,11 @@ module _ (s : List ℕ) (st : State) where
       let first = on-sound (not (inOrder t′ (st .version) (st .claims))) OutOfOrder _ sound in
       let second = on-sound (full t′ (st .curves) (st .claims)) TooMany _ (first .1) in
       let third = on-sound (ltb (length rest) (fieldSize rest)) Torn _ (second .1) in
-      let is : t′ ≡ t = ap (λ (f : Field). tagIn f t) same in
+      let is : t′ ≡ t = cc in
+      let to : next ≡ moved t′ = cc in
       subst (λ (t″ : Tag). next ≡ moved t″ → Takes s st t″ next) is
       (λ to. record { is = tagged-so; ordered = not-false _ (first .0); room = second .0; whole = ltb-false _ _ (third .0); content = third .1; then = to })
-      (sym (ap (λ (f : Field). nextIn f next) same) ∙ ap moved is)
+      (to ∙ ap moved is)
 
   pub takes : (t : Tag) (next : State) → stepAt s st ≡ field.Taken t next → Takes s st t next
   takes t next =
@@ -193,11 +183,14 @@ module _ (s : List ℕ) (st : State) where
   pub refused-at : (x : Refusal) (p : ℕ) → stepAt s st ≡ field.Refused x p → p ≡ st .place
   refused-at x p =
       field-cases (λ (f : Field). f ≡ field.Refused x p → p ≡ st .place)
-      (λ x′ e. sym (ap (λ (f : Field). placeIn f) e)) (λ t is sound e. let z : _≡_ {A = ℕ} 0 1 = cc in absurd (omega (arith, z)))
+      (λ x′ e. cc) (λ t is sound e. cc)
+
+pub next-place : {s : List ℕ} {st : State} {t : Tag} {next : State} → Takes s st t next → next .place ≡ st .place + fieldSize (drop (st .place) s)
+next-place {st = st} {t = t} taken = ap (λ (x : State). x .place) (taken .then) ∙ after-place t st _ _
 
 -- the place of the next field is further on, and inside the book or at its end
 pub next-inside : {s : List ℕ} {st : State} {t : Tag} {next : State} → Takes s st t next → st .place ≤ length s → (st .place < next .place) × (next .place ≤ length s)
 next-inside {s} {st} {t} {next} taken inside =
-    let at : next .place ≡ st .place + fieldSize (drop (st .place) s) = ap (λ (x : State). x .place) (taken .then) ∙ after-place t st _ _ in
+    let at = next-place taken in
     let left : length (drop (st .place) s) ≡ length s - st .place = length-drop (st .place) s in
     (omega (arith, at), omega (arith, at, left, taken .whole, inside))

@@ -50,16 +50,16 @@ fn value(f: Curve, tick: u32) {
 }
 
 // Kind 0 asks for the left curve's value at tick X. A curve that the line lacks is read as one of period 0, which is ill-formed.
-fn answer(line: &[u8], kind: u64, x: u32) {
+fn answer(line: &[u8], kind: u64, x: u64) {
     let left = read::past(line, 0, b'|');
     let right = read::past(line, left, b'|');
     let claimed = read::past(line, right, b'|');
     let f = read::curve_at(line, left);
     if kind == 0 {
-        value(f, x);
+        value(f, read::narrow(x));
         return;
     }
-    match read::claim(kind, x) {
+    match Claim::new(kind, x) {
         Named::Claim(claim) => judge(
             claim,
             f,
@@ -84,7 +84,7 @@ fn case(line: &[u8]) {
     io::write_all(1, &line[..name]);
     let kind = lines::number_at(line, name);
     let x = lines::number_at(line, kind.next);
-    answer(line, kind.value, read::narrow(x.value));
+    answer(line, kind.value, x.value);
 }
 
 fn cases(input: &[u8]) {

@@ -1,7 +1,5 @@
 // The parts of a case's line.
-use curve::Claim;
 use curve::Curve;
-use curve::Named;
 use curve::Ticks;
 
 // A value, how many times it is listed, and the place after it.
@@ -90,8 +88,4 @@ pub(crate) fn curve_at(line: &[u8], from: usize) -> Curve {
         narrow(increment.value),
         &values,
     )
-}
-
-pub(crate) fn claim(kind: u64, x: u32) -> Named {
-    Claim::new(kind, x as u64)
 }

@@ -2,9 +2,11 @@
 --
 --     choice greatest           the greater or the lesser of two numbers
 --     signedOf                  a struct of two numbers as a signed number
---     raisedAt, begunAt         the numbers that an extreme is taken of, and what A is increased by
---     Extent, Small, Ready, Crossable      what is known where it is computed, so that products fit
+--     raisedAt                  the numbers that an extreme is taken of; extreme-held: of the listed values as of the curve's
+--     Extent, Small, Ready, Crossable      what is known where it is computed, so that products fit: no extreme is above large, no N above far
+--     raised-fits, choice-fits, begun-fits, above-fits, below-fits, faster-fits     that they do
 --     evenRank, crossingN       the rank with equal rates, and N where f is the slower curve
+--     rates-left, rates-right, rates-even     by the three ways in which two rates can stand; convolution-none, convolution-some: by T
 --     rank-is                   R is the greater of the two
 --     horizonAnswer             the answer: no horizon for a claim that is not well formed (horizon-none, ill-formed), else its
 --                               horizon (horizon-at, at-horizon)
@@ -21,6 +23,7 @@ use Rattle.minplus.specs.Curve as C
 use Rattle.minplus.specs.Divisor.{lcm-comm}
 use Rattle.minplus.specs.Claim as M
 use Rattle.minplus.specs.Horizon as H
+use Rattle.minplus.specs.Crossing.{Slower}
 use Rattle.horizon.specs.declared.crossing.Signed.{Signed}
 use Rattle.horizon.specs.declared.Horizon.{Horizon}
 use Rattle.horizon.specs.declared.Horizon.the-variants.{At, IllFormed}
@@ -36,10 +39,6 @@ signedOf s = record { plus = s .plus; minus = s .minus }
 -- the numbers that an extreme is taken of
 abbrev pub raisedAt : List ℕ → ℕ → ℕ → ℕ → ℕ → ℕ → ℕ
 raisedAt l d c start count i = d * getD l (start + i) 0 + c * (count - i)
-
--- "d*g(T') - c*T'"
-abbrev pub begunAt : C.Curve → C.Curve → H.Signed
-begunAt f g = record { plus = f .period * C.value g (g .rank); minus = f .increment * g .rank }
 
 -- what an extreme is taken over: some of the listed values, with factors that are small enough
 pub record Extent (l : List ℕ) (d c start count : ℕ) : Type 0 where
@@ -65,7 +64,7 @@ far = 4_503_599_627_370_496
 pub record Ready (f g : C.Curve) : Type 0 where
   pub left : C.WellFormed f
   pub right : C.WellFormed g
-  pub slower : f .increment * g .period < g .increment * f .period
+  pub slower : Slower f g
 
 -- and A and B are within bounds
 pub record Crossable (f g : C.Curve) (a b : Signed) : Type 0 where
@@ -113,7 +112,7 @@ extreme-held choose rank period increment l d c start count positive some inside
     ap (λ (v : ℕ). d * v + c * (count - i))
     (C.value-listed (heldOf rank period increment l) positive (start + i) (omega arith) ∙ getD-take (rank + period) l (start + i) 0 (omega arith))))
 
-pub begun-fits : {f g : C.Curve} → Ready f g → (begunAt f g .plus ≤ large) × (begunAt f g .minus ≤ large)
+pub begun-fits : {f g : C.Curve} → Ready f g → (H.begunAt f g .plus ≤ large) × (H.begunAt f g .minus ≤ large)
 begun-fits {f} {g} at =
     let value-fits : C.value g (g .rank) ≤ 256_000_000 = omega (arith, C.value-at-most g (at .right) (g .rank), C.rank-fits (at .right)) in (
       omega (arith, mul-le-mul (C.period-fits (at .left)) value-fits),
@@ -190,7 +189,7 @@ unfolding H.convolutionN
 convolution-none f g e = rw e
 
 pub convolution-some : (f g : C.Curve) → 1 ≤ f .rank
-    → H.convolutionN f g ≡ H.crossing f g (H._increasedBy_ (H.highest f) (begunAt f g)) (H._increasedBy_ (H.lowest g) (H.earliest f g))
+    → H.convolutionN f g ≡ H.crossing f g (H._increasedBy_ (H.highest f) (H.begunAt f g)) (H._increasedBy_ (H.lowest g) (H.earliest f g))
 unfolding H.convolutionN
 convolution-some f g some = let e : f .rank ≡ suc (f .rank - 1) = omega arith in rw e
 

@@ -6,7 +6,7 @@ ghost use Rattle.minplus.specs.Curve.{WellFormed, value};
 ghost use Rattle.minplus.specs.Horizon as Def;
 ghost use Rattle.curve.specs.Held.{curveOf};
 ghost use Rattle.curve.specs.Claimed.{operationOf};
-ghost use Rattle.horizon.specs.Reach.{choice, signedOf, raisedAt, begunAt, Extent, Small, Ready, Crossable, large, far, crossingN};
+ghost use Rattle.horizon.specs.Reach.{choice, signedOf, raisedAt, Extent, Small, Ready, Crossable, large, far, crossingN};
 use curve::Curve;
 use curve::Operation;
 use curve::rates::slower;
@@ -112,7 +112,7 @@ fn increased(a: Signed, b: Signed) -> Signed
 // d*g(T') - c*T'.
 fn begun(f: Curve, g: Curve) -> Signed
     requires { ⌜ Ready (curveOf f) (curveOf g) ⌝ }
-    ensures { λ r. ⌜ signedOf r ≡ begunAt (curveOf f) (curveOf g) ⌝ }
+    ensures { λ r. ⌜ signedOf r ≡ Def.begunAt (curveOf f) (curveOf g) ⌝ }
     ensures { λ r. ⌜ Small large r ⌝ }
 {
     let d = f.period.0 as u64;

@@ -1,8 +1,7 @@
 -- The claims of a book over its curves.
 --
---     curveNamed s places n       curve n of a book whose curves' fields begin at those places
---     claimOn s places st         what a claim's field states, of those curves
---     verdictIn s places curves p     the verdict on the claim whose field is at p, among so many curves
+--     claimOn s places st         what a claim's field states, of the curves whose fields begin at those places
+--     verdictIn s places curves p     the verdict on the claim whose field is at p, among so many curves; verdictFor: on what it states
 --     stated-kind                 what is stated is what the content's bytes say of its kind
 --     StandsOver                  it is a claim of curves that are there and well formed: so is each of a sound book (stands-over)
 --     claim-well, verdict-stands     then it is well formed, and the verdict is that of document 01's rule
@@ -19,27 +18,26 @@ use borrow.Author.Tests.{eqb-true, eqb-false}
 use Rattle.minplus.specs.Curve.{Curve, WellFormed}
 use Rattle.minplus.specs.Claim as M
 use Rattle.minplus.specs.Verdict.{Verdict, notJudged, verdict}
-use Rattle.curve.specs.Filled.{inArray, array-at}
+use Rattle.curve.specs.Filled.{inArray}
 use Rattle.curve.specs.Claimed.{claimOver}
 use Rattle.curve.specs.Kinds.{xOf}
 use Rattle.curve.specs.declared.Claim.{Claim}
 use Rattle.curve.specs.declared.Claim.the-variants.{Equals, AtMost, Exactly}
+use Rattle.numbers.specs.Lists.{forall-at}
 use Rattle.content.specs.declared.Stated.{Stated}
 use Rattle.content.specs.declared.Refusal.the-variants.{WrongClaim}
 use Rattle.content.specs.declared.Checked.{Checked}
 use Rattle.content.specs.declared.Checked.the-variants as checked
 use Rattle.content.specs.declared.ClaimField.{ClaimField}
 use Rattle.content.specs.declared.ClaimField.the-variants as claim-field
-use Rattle.content.specs.Layout.{curveIn, kindIn, claimIn, claimLength}
+use Rattle.content.specs.Layout.{kindIn, claimIn, claimLength}
 use Rattle.field.specs.Fields.{contentAt}
 use Rattle.content.specs.Refusals.{kindFault, statedOf, statedOr, stated, statementField, claimField, claim-odd, claim-whole}
 use Rattle.field.specs.Steps.{maxCurves}
-use Rattle.content.specs.Sound.{Stands, claim-stands, curve-well-formed}
+use Rattle.content.specs.Sound.{Stands, claim-stands}
 use Rattle.book.specs.Reading.{Contents}
-use Rattle.book.specs.Sound.{SoundBook}
-
-abbrev pub curveNamed : List ℕ → List ℕ → ℕ → Curve
-curveNamed s places n = curveIn (contentAt s (getD places n 0))
+use Rattle.book.specs.Sound.{SoundClaim, SoundBook}
+use Rattle.book.specs.Values.{curveNamed, named-array, named-well}
 
 abbrev pub claimOn : List ℕ → List ℕ → Stated → M.Claim
 claimOn s places st =
@@ -68,13 +66,9 @@ pub stated-kind : (curves : ℕ) (content : List ℕ) (st : Stated) → claimFie
 unfolding statementField
 stated-kind curves content st e = by-length (eqb (length content) (claimLength (claimIn content .kind))) refl
   where
-    statedIn : ClaimField → Stated
-    statedIn (claim-field.Stated x) = x
-    statedIn (claim-field.Refused x) = st
-
     sound : (κ : M.Kind) (y : Checked) → statedOr y (statedOf κ (claimIn content)) ≡ claim-field.Stated st → st ≡ statedOf κ (claimIn content)
-    sound κ (checked.Refused x) e = let z : _≡_ {A = ℕ} 0 1 = cc in absurd (omega (arith, z))
-    sound κ checked.Sound e = sym (ap statedIn e)
+    sound κ (checked.Refused x) e = cc
+    sound κ checked.Sound e = cc
 
     by-kind : (κ : Option M.Kind) → kindIn content ≡ κ → stated κ curves (claimIn content) ≡ claim-field.Stated st
         → (κ : M.Kind) × (kindIn content ≡ some κ) × (st ≡ statedOf κ (claimIn content))
@@ -91,9 +85,9 @@ stated-kind curves content st e = by-length (eqb (length content) (claimLength (
 pub stands-over : (s : List ℕ) (c : Contents) → SoundBook s c → (k : ℕ) → k < length (c .claims)
     → StandsOver s (c .curves) (length (c .curves)) (getD (c .claims) k 0)
 stands-over s c book k lt = record {
-  stands = claim-stands (length (c .curves)) (contentAt s (getD (c .claims) k 0)) (book .each-claim k lt);
+  stands = claim-stands (length (c .curves)) (contentAt s (getD (c .claims) k 0)) (forall-at (SoundClaim s (length (c .curves))) (c .claims) 0 (book .each-claim) k lt);
   few = book .curves-fit;
-  each-well = λ n named. curve-well-formed (contentAt s (getD (c .curves) n 0)) (book .each-curve n named);
+  each-well = named-well book;
 }
 
 module _ {s places : List ℕ} {curves p : ℕ} (over : StandsOver s places curves p) where
@@ -112,21 +106,21 @@ module _ {s places : List ℕ} {curves p : ℕ} (over : StandsOver s places curv
   verdict-stands = ap (verdictFor s places) (over .stands .so)
 
 module _ {s places : List ℕ} {curves p : ℕ} (over : StandsOver s places curves p) (all : curves ≡ length places) where
-  named-array : (n : ℕ) → n < curves → curveNamed s (inArray maxCurves places) n ≡ curveNamed s places n
-  named-array n named = ap (λ (q : ℕ). curveIn (contentAt s q)) (array-at maxCurves places n (omega (arith, all, named)))
+  same-curve : {n : ℕ} → n < curves → curveNamed s (inArray maxCurves places) n ≡ curveNamed s places n
+  same-curve {n} named = named-array s places n (omega (arith, all, named))
 
   pub stands-array : StandsOver s (inArray maxCurves places) curves p
   stands-array = record {
     stands = over .stands;
     few = over .few;
-    each-well = λ n named. subst WellFormed (sym (named-array n named)) (over .each-well n named);
+    each-well = λ n named. subst WellFormed (sym (same-curve named)) (over .each-well n named);
   }
 
   pub verdict-array : verdictIn s (inArray maxCurves places) curves p ≡ verdictIn s places curves p
   unfolding stands-array
   verdict-array =
       verdict-stands stands-array
-      ∙ ap verdict (same (over .stands .stated .claim) (named-array _ (over .stands .left-named)) (named-array _ (over .stands .right-named)) (named-array _ (over .stands .claimed-named)))
+      ∙ ap verdict (same (over .stands .stated .claim) (same-curve (over .stands .left-named)) (same-curve (over .stands .right-named)) (same-curve (over .stands .claimed-named)))
       ∙ sym (verdict-stands over)
     where
       same : (c : Claim) {f f′ g g′ h h′ : Curve} → f ≡ f′ → g ≡ g′ → h ≡ h′ → claimOver c f g h ≡ claimOver c f′ g′ h′

@@ -1,10 +1,11 @@
 -- A sound book as the code runs over it.
 --
---     Told s places st           what is known of a claim's field that is read as st: its curves are there and well formed, and so is it (told)
+--     ClaimTold s places st      what is known of a claim's field that is read as st: its curves are there and well formed, and so is it (claim-told)
 --     claim-held                 a claim of curves in their working copies
---     verdict-given              the verdict on a well-formed claim
+--     verdict-given              the verdict on a well-formed claim (orUnjudged)
 --     Runs s book b              what the loop is given: a sound book as it is held, and a buffer with room for its records
---     Written s b out totals k     where it stands after k claims; written-none, written-more: as it begins, and after one more
+--     Written s b out totals k     where it stands after k claims; written-none, written-more, written-all: as it begins, after one more, and at the end
+--     claims-few, countable, sound-countable, length-written     how much is counted and written then
 use Prim.Native.Nat.{ℕ, _+_, _*_, _≤_, _<_}
 use mathlib.Core.Path.{_≡_, refl, sym, ap, subst, _∙_}
 use mathlib.Core.List.{List}
@@ -25,7 +26,6 @@ use Rattle.verdict.specs.Given.{judgedOf, judgement}
 use Rattle.verdict.specs.Means.{is-verdict}
 use Rattle.numbers.specs.Put.{put, put-nothing, length-put}
 use Rattle.content.specs.declared.Stated.{Stated}
-use Rattle.content.specs.declared.ClaimField.{ClaimField}
 use Rattle.content.specs.declared.ClaimField.the-variants as claim-field
 use Rattle.field.specs.Fields.{contentAt}
 use Rattle.content.specs.Refusals.{claimField}
@@ -35,10 +35,11 @@ use Rattle.book.specs.declared.Places.{Places}
 use Rattle.book.specs.declared.Book.{Book}
 use Rattle.book.specs.Reading.{Contents, sound, readBook}
 use Rattle.book.specs.Held.{bookOf, placesOf}
+use Rattle.book.specs.Values.{curveNamed}
 use Rattle.book.specs.Sound.{SoundBook, sound-book}
 use Rattle.judge.specs.declared.Totals.{Totals}
 use Rattle.judge.specs.Answer.{recordSize}
-use Rattle.judge.specs.Claims.{curveNamed, claimOn, verdictIn, StandsOver, stands-over, claim-well, stands-array, verdict-array}
+use Rattle.judge.specs.Claims.{claimOn, verdictIn, StandsOver, stands-over, claim-well, stands-array, verdict-array}
 use Rattle.judge.specs.Records.{recordBytes, recordsTo, length-records, records-more}
 use Rattle.judge.specs.Totals.{Countable, totalsTo, counted, totals-more, totals-add-up}
 use Rattle.judge.specs.Run.{verdictAt, recordAt, codeAt, totalsOn, bufferOn}
@@ -49,7 +50,7 @@ pub record Runs (s : List ℕ) (book : Book) (b : List ℕ) : Type 0 where
   pub held : book ≡ bookOf contents
   pub room : recordSize * length (contents .claims) ≤ length b
 
-pub record Told (s places : List ℕ) (st : Stated) : Type 0 where
+pub record ClaimTold (s places : List ℕ) (st : Stated) : Type 0 where
   pub left-named : st .left < maxCurves
   pub right-named : st .right < maxCurves
   pub claimed-named : st .claimed < maxCurves
@@ -64,17 +65,13 @@ orUnjudged (some v) = v
 
 -- ---- laws
 
-pub told : {s places : List ℕ} {curves p : ℕ} → StandsOver s places curves p → (st : Stated) → claimField curves (contentAt s p) ≡ claim-field.Stated st → Told s places st
-told {s} {places} {curves} {p} over st e = subst (Told s places) (ap statedOr (sym (stands .so) ∙ e)) so-far
+pub claim-told : {s places : List ℕ} {curves p : ℕ} → StandsOver s places curves p → (st : Stated) → claimField curves (contentAt s p) ≡ claim-field.Stated st → ClaimTold s places st
+claim-told {s} {places} {curves} {p} over st e = let same : stands .stated ≡ st = cc (stands .so) in subst (ClaimTold s places) same so-far
   where
-    statedOr : ClaimField → Stated
-    statedOr (claim-field.Stated x) = x
-    statedOr (claim-field.Refused x) = st
-
     stands : Stands curves (contentAt s p)
     stands = over .stands
 
-    so-far : Told s places (over .stands .stated)
+    so-far : ClaimTold s places (over .stands .stated)
     so-far = record {
       left-named = omega (arith, stands .left-named, over .few);
       right-named = omega (arith, stands .right-named, over .few);

@@ -6,15 +6,15 @@
 --     Judged s b a after      the book is sound, there is a record for each claim, the totals count the records, and the rest of the buffer is as it was;
 --                             each record is on its claim (ClaimJudged) and says of it, code by code, what is so at every tick, without end (Says)
 --     inspected               for any s and b; record-back: record k of the buffer is the record on claim k
---     IsClaim, claimCurve     claim k and its curves, as the claim's bytes say it
+--     IsClaim, claimCurve     claim k and its curves, as the claim's bytes say it (claimContent)
 --     accepted-convolution    for the code 1 of kind 3 spelled out: h(n) is the least f(u)+g(n-u), at every n
 --     certified-means         a certified book: at least one claim, and each holds at every tick
---     inspected-w8            W8 is such a book; inspected-w4: W4 has a claim of kind 3 that is accepted
+--     inspected-w8            W8 is such a book; w4, inspected-w4: W4 has a claim of kind 3 that is accepted
 use Prim.Native.Nat.{ℕ, zero, suc, _+_, _*_, _≤_, _<_, _^_}
 use mathlib.Core.Path.{_≡_, refl, sym, ap, subst, _∙_}
 use mathlib.Core.Bool.{Bool, true, false}
 use mathlib.Core.List.{List, [], _∷_, _++_}
-use mathlib.Core.Option.{Option, none, some}
+use mathlib.Core.Option.{some}
 use mathlib.Core.Logic.{_↔_, _⊎_, inl, inr}
 use native.Mathlib.Omega.{arith}
 use lib.ListN.{length, getD, drop, replicate}
@@ -39,10 +39,11 @@ use Rattle.field.specs.Steps.{maxClaims}
 use Rattle.book.specs.Reading.{Contents, Read, sound, refused, maxBytes, readBook}
 use Rattle.book.specs.Ground.{w8}
 use Rattle.book.specs.Sound.{sound-book, refused-inside}
+use Rattle.book.specs.Values.{curveNamed}
 use Rattle.numbers.specs.Numbers.{numberAt}
 use Rattle.numbers.specs.Put.{put, length-put, drop-put}
 use Rattle.judge.specs.Answer.{answer-parts, refusalIn, placeIn, acceptedIn, refutedIn, unjudgedIn, claimsIn, certified, recordSize, codeIn, recordIn}
-use Rattle.judge.specs.Claims.{curveNamed, claimOn, stated-kind, stands-over, claim-well, verdict-stands}
+use Rattle.judge.specs.Claims.{claimOn, stated-kind, stands-over, claim-well, verdict-stands}
 use Rattle.judge.specs.Records.{recordsTo, length-records}
 use Rattle.judge.specs.Totals.{isAccepted, isRefuted, isUnjudged, countTo, totalsTo, together, totalsWord, totals-add-up, count-all}
 use Rattle.judge.specs.Run.{Room, verdictAt, recordAt, codeAt, admittedOn, admitted, refusedWord, answerOn, bufferOn, answerOf, bufferOf}
@@ -142,7 +143,7 @@ module _ (c : Claim) (well : WellFormedClaim c) where
       let exact = verdict-exact c (well-formed-proper c well) v in
       (λ e. exact .0 (by-code (verdict c) k e ∙ sym is), λ m. ap (λ (w : Verdict). recordOf w .code) (exact .1 m) ∙ code)
 
-  pub verdict-says : Says c r
+  verdict-says : Says c r
   unfolding verdictBy recordOf
   verdict-says = record {
     code-known = known (verdict c);
@@ -301,7 +302,7 @@ accepted-convolution {s} {c} {k} {r} judged kind code n =
     let f : Curve = claimCurve s c k 1 in
     let g : Curve = claimCurve s c k 2 in
     let h : Curve = claimCurve s c k 3 in
-    let is : judged .is-claim .0 ≡ result convolution = ap (kindOr (result convolution)) (sym (judged .is-claim .1) ∙ kind) in
+    let is : judged .is-claim .0 ≡ result convolution = cc (judged .is-claim .1) in
     let claim : judged .claim ≡ equals convolution f g h =
     judged .is-claim .2 ∙ ap (λ (κ : Kind). claimOn s (c .curves) (statedOf κ (claimIn (claimContent s c k)))) is
     ∙ ap (λ (n : ℕ). equals convolution f g (curveNamed s (c .curves) n)) (third-id (claimContent s c k) convolution kind) in
@@ -309,10 +310,6 @@ accepted-convolution {s} {c} {k} {r} judged kind code n =
     let equal : value h n ≡ conv (value f) (value g) n = says .code-1 .0 code .1 n in
     let least = conv-attained (value f) (value g) n in
     (λ u v e. rw equal (conv-below (value f) (value g) n u v e), (least .0, least .1, least .2, equal ∙ least .3))
-  where
-    kindOr : Kind → Option Kind → Kind
-    kindOr κ none = κ
-    kindOr κ (some x) = x
 
 -- "yes exactly when there is at least one claim and all are accepted": each is within the limit and holds at every tick
 pub certified-means : {s b : List ℕ} {a : ℕ} {after : List ℕ} → (judged : Judged s b a after)

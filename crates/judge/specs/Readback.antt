@@ -1,16 +1,13 @@
 -- The written records, read from the buffer's bytes again.
 --
 --     Fits                a record whose numbers fit their bytes: of a well-formed claim it is one (record-fits)
---     number-middle       a number that stands in the middle of a list
 --     records-back        record k of the buffer is the record that was written there
 use Prim.Native.Nat.{ℕ, zero, suc, _+_, _*_, _^_, _≤_, _<_}
-use mathlib.Core.Path.{_≡_, refl, ap, _∙_}
+use mathlib.Core.Path.{_≡_, refl, sym, ap, _∙_}
 use mathlib.Core.List.{List, [], _++_, append-assoc, append-nil}
-use mathlib.Core.Logic.{_⊎_, inl, inr}
 use native.Mathlib.Omega.{arith}
-use native.Mathlib.Nat.{eq-or-lt-of-le, le-of-suc-le-suc}
-use lib.ListN.{length, take, drop, length-append}
-use lib.Seq.{take-at, drop-at}
+use lib.ListN.{length, drop}
+use borrow.Author.Count.{below-more}
 use Rattle.minplus.specs.Curve.{value, value-at-most}
 use Rattle.minplus.specs.Claim.{Claim, WellFormedClaim, equals, bounds, sum, minimum, convolution, delay, backlog, due, allowed}
 use Rattle.minplus.specs.Conv.{conv-below}
@@ -18,8 +15,9 @@ use Rattle.minplus.specs.Horizon.{horizon, maxHorizon}
 use Rattle.minplus.specs.Verdict.{Record, Verdict, accepted, refutedAt, refutedByRate, notLeast, notJudged, recordOf, verdict, leftAt, rightAt, tried}
 use Rattle.minplus.specs.Meaning.{Meaning, well-formed-proper}
 use Rattle.minplus.specs.Exact.{verdict-exact}
-use Rattle.numbers.specs.Numbers.{numberAt, numberAfter, number-whole}
-use Rattle.numbers.specs.Put.{put, bytesOf, length-bytes, bytes-back}
+use Rattle.numbers.specs.Numbers.{numberAt}
+use Rattle.numbers.specs.Put.{put, bytesOf, length-bytes}
+use Rattle.numbers.specs.Back.{number-on, number-front, number-back}
 use Rattle.judge.specs.Answer.{recordSize, recordIn}
 use Rattle.judge.specs.Records.{recordBytes, recordsTo, length-records, record-parts}
 
@@ -73,45 +71,31 @@ record-fits c well = go (verdict c) (verdict-exact c (well-formed-proper c well)
 
 -- ---- of a list
 
-number-middle : (pre post : List ℕ) (w n i : ℕ) → n < 256 ^ w → length pre ≡ i → numberAt w (pre ++ (bytesOf w n ++ post)) i ≡ n
-number-middle pre post w n i fits e =
-    let size : length (bytesOf w n) ≡ w = length-bytes w n in
-    number-whole w i (pre ++ (bytesOf w n ++ post))
-    (rw (length-append pre (bytesOf w n ++ post), length-append (bytesOf w n) post, size) (omega (arith, e)))
-    ∙ ap (λ (t : List ℕ). numberAfter 0 (take w t)) (drop-at pre (bytesOf w n ++ post) i e)
-    ∙ ap (numberAfter 0) (take-at (bytesOf w n) post w size) ∙ bytes-back w n fits
-
 records-split : (f : ℕ → Record) (n k : ℕ) → k < n → (rest : List ℕ) × (recordsTo f n ≡ recordsTo f k ++ (recordBytes (f k) ++ rest))
 unfolding recordsTo
 records-split f zero k lt = absurd (omega (arith, lt))
-records-split f (suc n) k lt = go (eq-or-lt-of-le (le-of-suc-le-suc lt)) (records-split f n k)
-  where
-    go : (k ≡ n) ⊎ (k < n) → (k < n → (rest : List ℕ) × (recordsTo f n ≡ recordsTo f k ++ (recordBytes (f k) ++ rest)))
-        → (rest : List ℕ) × (recordsTo f n ++ recordBytes (f n) ≡ recordsTo f k ++ (recordBytes (f k) ++ rest))
-    go (inl e) before = ([], rw (e, append-nil (recordBytes (f n))))
-    go (inr less) before =
-        let t = before less in
-        (t .0 ++ recordBytes (f n), ap (λ (l : List ℕ). l ++ recordBytes (f n)) (t .1) ∙ simp append-assoc)
+records-split f (suc n) k lt =
+    below-more (λ j. (rest : List ℕ) × (recordsTo f n ++ recordBytes (f n) ≡ recordsTo f j ++ (recordBytes (f j) ++ rest))) n
+    (λ j less.
+    let t = records-split f n j less in
+    (t .0 ++ recordBytes (f n), ap (λ (l : List ℕ). l ++ recordBytes (f n)) (t .1) ∙ simp append-assoc))
+    ([], rw (append-nil (recordBytes (f n)))) k (omega (arith, lt))
 
 record-middle : (pre post : List ℕ) (r : Record) (k : ℕ) → Fits r → length pre ≡ recordSize * k → recordIn (pre ++ (recordBytes r ++ post)) k ≡ r
 record-middle pre post r k fits e =
     let one : List ℕ = bytesOf 1 (r .code) in
     let four : List ℕ = bytesOf 4 (r .tick) in
-    let left : List ℕ = bytesOf 8 (r .left) in
-    let right : List ℕ = bytesOf 8 (r .right) in
-    let whole : List ℕ = pre ++ (recordBytes r ++ post) in
-    let w₁ : whole ≡ pre ++ (one ++ (four ++ (left ++ (right ++ post)))) = rw (record-parts r) (simp append-assoc) in
-    let w₂ : whole ≡ (pre ++ one) ++ (four ++ (left ++ (right ++ post))) = rw (record-parts r) (simp append-assoc) in
-    let w₃ : whole ≡ ((pre ++ one) ++ four) ++ (left ++ (right ++ post)) = rw (record-parts r) (simp append-assoc) in
-    let w₄ : whole ≡ (((pre ++ one) ++ four) ++ left) ++ (right ++ post) = rw (record-parts r) (simp append-assoc) in
-    let n₂ : length (pre ++ one) ≡ recordSize * k + 1 = rw (length-append pre one, e, length-bytes 1 (r .code)) in
-    let n₃ : length ((pre ++ one) ++ four) ≡ recordSize * k + 5 = rw (length-append (pre ++ one) four, n₂, length-bytes 4 (r .tick)) (omega arith) in
-    let n₄ : length (((pre ++ one) ++ four) ++ left) ≡ recordSize * k + 13 = rw (length-append ((pre ++ one) ++ four) left, n₃, length-bytes 8 (r .left)) (omega arith) in
-    let c = ap (λ (t : List ℕ). numberAt 1 t (recordSize * k)) w₁ ∙ number-middle pre _ 1 (r .code) _ (fits .code-fits) e in
-    let t = ap (λ (t : List ℕ). numberAt 4 t (recordSize * k + 1)) w₂ ∙ number-middle (pre ++ one) _ 4 (r .tick) _ (fits .tick-fits) n₂ in
-    let l = ap (λ (t : List ℕ). numberAt 8 t (recordSize * k + 5)) w₃ ∙ number-middle ((pre ++ one) ++ four) _ 8 (r .left) _ (fits .left-fits) n₃ in
-    let m = ap (λ (t : List ℕ). numberAt 8 t (recordSize * k + 13)) w₄ ∙ number-middle (((pre ++ one) ++ four) ++ left) _ 8 (r .right) _ (fits .right-fits) n₄ in
-    λ i. record { code = c i; tick = t i; left = l i; right = m i }
+    let eight : List ℕ = bytesOf 8 (r .left) in
+    let s : List ℕ = one ++ (four ++ (eight ++ (bytesOf 8 (r .right) ++ post))) in
+    let parts : recordBytes r ++ post ≡ s = rw (record-parts r) (simp append-assoc) in
+    let n₁ = length-bytes 1 (r .code) in
+    let n₂ = length-bytes 4 (r .tick) in
+    let n₃ = length-bytes 8 (r .left) in
+    let c : numberAt 1 (pre ++ s) (recordSize * k) ≡ r .code = number-back 1 (r .code) pre _ _ (sym e) (fits .code-fits) in
+    let t = number-on 4 1 _ pre s e ∙ number-on 4 0 1 one _ n₁ ∙ number-front 4 (r .tick) _ (fits .tick-fits) in
+    let l = number-on 8 5 _ pre s e ∙ number-on 8 4 1 one _ n₁ ∙ number-on 8 0 4 four _ n₂ ∙ number-front 8 (r .left) _ (fits .left-fits) in
+    let m = number-on 8 13 _ pre s e ∙ number-on 8 12 1 one _ n₁ ∙ number-on 8 8 4 four _ n₂ ∙ number-on 8 0 8 eight _ n₃ ∙ number-front 8 (r .right) post (fits .right-fits) in
+    rw parts (λ i. record { code = c i; tick = t i; left = l i; right = m i })
 
 pub records-back : (b : List ℕ) (f : ℕ → Record) (n k : ℕ) → k < n → Fits (f k) → recordIn (put b 0 (recordsTo f n)) k ≡ f k
 unfolding put

@@ -1,7 +1,7 @@
 -- The records as bytes. Document 01, 'Verdicts': "A record is 21 bytes: code, tick (4 bytes), left value (8), right value (8), high byte first."
 --
---     recordBytes                 a record's bytes; length-record: there are 21
---     recordsTo f n               those of f(0) to f(n-1), one after the other; length-records: 21 each
+--     recordBytes                 a record's bytes (record-parts); length-record: there are 21; put-record: written number after number
+--     recordsTo f n               those of f(0) to f(n-1), one after the other; length-records: 21 each; records-more: one more is written
 use Prim.Native.Nat.{ℕ, zero, suc, _+_, _*_, _≤_}
 use mathlib.Core.Path.{_≡_, refl, sym, ap, _∙_}
 use mathlib.Core.List.{List, [], _++_}
@@ -10,7 +10,7 @@ use native.Mathlib.Numerals.{add-one}
 use lib.ListN.{length, length-append}
 use Rattle.minplus.specs.Verdict.{Record}
 use Rattle.judge.specs.Answer.{recordSize}
-use Rattle.numbers.specs.Put.{put, putWhole, bytesOf, length-bytes, put-put}
+use Rattle.numbers.specs.Put.{put, putWhole, bytesOf, put-put}
 use Rattle.numbers.specs.Written.{Wrote, wrote-number, wrote-length, wrote-on}
 
 unfoldable pub recordBytes : Record → List ℕ
@@ -28,10 +28,9 @@ pub record-parts : (r : Record) → recordBytes r ≡ ((bytesOf 1 (r .code) ++ b
 unfolding recordBytes
 record-parts r = refl
 
-pub length-record : (r : Record) → length (recordBytes r) ≡ recordSize
+length-record : (r : Record) → length (recordBytes r) ≡ recordSize
 unfolding recordBytes
-length-record r =
-    simp (length-append, length-bytes)
+length-record r = refl
 
 pub length-records : (f : ℕ → Record) (n : ℕ) → length (recordsTo f n) ≡ recordSize * n
 unfolding recordsTo

@@ -3,18 +3,18 @@
 --
 --     isAccepted, isRefuted, isUnjudged     the codes of each
 --     countTo p codes n       how many of codes(0) to codes(n-1) are such
---     totalsTo codes n        the three totals over them; counted: with one code more
+--     totalsTo codes n        the three totals over them; counted: with one code more (totals-more); Countable: no more than a book may have
 --     together                their sum
 --     totalsWord              as an answer
 --     totals-add-up           of verdicts they add up
 --     count-all               all are such exactly when as many are
 use Prim.Native.Nat.{ℕ, zero, suc, _+_, _≤_, _<_}
 use mathlib.Core.Path.{_≡_, refl}
-use mathlib.Core.Logic.{_↔_, inl, inr}
+use mathlib.Core.Logic.{_↔_}
 use mathlib.Core.Bool.{Bool, true, false, _||_}
 use native.Mathlib.Omega.{arith}
-use native.Mathlib.Nat.{eq-or-lt-of-le, le-of-suc-le-suc}
 use native.Mathlib.Numerals.{add-one}
+use borrow.Author.Count.{below-more}
 use lib.Dec.{eqb}
 use Rattle.minplus.specs.Verdict.{Verdict, accepted, refutedAt, refutedByRate, notLeast, notJudged, recordOf}
 use Rattle.field.specs.Steps.{maxClaims}
@@ -31,7 +31,7 @@ abbrev pub isUnjudged : ℕ → Bool
 isUnjudged code = eqb code 5
 
 -- one more, if it is such
-abbrev pub more : Bool → ℕ → ℕ
+abbrev more : Bool → ℕ → ℕ
 more true n = n + 1
 more false n = n
 
@@ -98,7 +98,7 @@ count-all p codes (suc n) = (to (p (codes n)) refl (count-all p codes n .0), bac
   where
     to : (b : Bool) → p (codes n) ≡ b → (countTo p codes n ≡ n → (k : ℕ) → k < n → p (codes k) ≡ true) → more b (countTo p codes n) ≡ suc n
         → (k : ℕ) → k < suc n → p (codes k) ≡ true
-    to true is before e k lt = elim (eq-or-lt-of-le (le-of-suc-le-suc lt)) [ inl here ↦ rw here is | inr less ↦ before (omega (arith, e)) k less ]
+    to true is before e k lt = below-more (λ j. p (codes j) ≡ true) n (before (omega (arith, e))) is k (omega (arith, lt))
     to false is before e k lt = absurd (omega (arith, e, count-most p codes n))
 
     back : (((k : ℕ) → k < n → p (codes k) ≡ true) → countTo p codes n ≡ n) → ((k : ℕ) → k < suc n → p (codes k) ≡ true) → more (p (codes n)) (countTo p codes n) ≡ suc n

@@ -5,9 +5,10 @@ ghost use Rattle.minplus.specs.Claim.{WellFormedClaim};
 ghost use Rattle.minplus.specs.Verdict.{verdict, recordOf};
 ghost use Rattle.curve.specs.Claimed.{claimOf};
 ghost use Rattle.curve.specs.Held.{holding};
-ghost use Rattle.verdict.specs.Given.{verdictOf, recordIn};
+ghost use Rattle.verdict.specs.Given.{verdictOf, numbersOf};
 ghost use Rattle.field.specs.Steps.{maxCurves};
-ghost use Rattle.judge.specs.Claims.{curveNamed, verdictIn, StandsOver};
+ghost use Rattle.book.specs.Values.{curveNamed};
+ghost use Rattle.judge.specs.Claims.{verdictIn, StandsOver};
 use book::Places;
 use content::ClaimField;
 use curve::Claim;
@@ -42,7 +43,7 @@ fn verdict_over(claim: Claim, f: Curve, g: Curve, h: Curve) -> Verdict
 // The record on the claim whose field is at `place`, in a book of so many curves.
 pub(crate) fn record_at(book: &[u8], places: Places, curves: usize, place: usize) -> Record
     requires { ⌜ StandsOver (now book) (places .curves) curves place ⌝ }
-    ensures { λ r. ⌜ recordIn r ≡ recordOf (verdictIn (now (book .entry)) (places .curves) curves place) ⌝ }
+    ensures { λ r. ⌜ numbersOf r ≡ recordOf (verdictIn (now (book .entry)) (places .curves) curves place) ⌝ }
 {
     let ClaimField::Stated(stated) = claim_at(book, place, curves) else {
         return record_of(Verdict::NotJudged);

@@ -3,9 +3,9 @@
 --     Ends r s             r ends a front of s
 --     placeFrom b s i      the first place of b in s from i on; the end where there is none
 --     pastSpace s i        the place after a space at i
---     numberFrom n s i     the digits of s from i on, after the number n, and the place after them
+--     numberFrom n s i     the digits of s from i on, after the number n (withDigit), and the place after them
 --     place-end, place-here, place-on          placeFrom, by what stands at i
---     number-end, number-stop, number-on       numberFrom, likewise
+--     number-end, number-low, number-high, number-on       numberFrom, likewise
 use Prim.Native.Nat.{ℕ, suc, _+_, _-_, _*_, _≤_, _<_, min}
 use mathlib.Core.Path.{_≡_}
 use mathlib.Core.Bool.{true, false}

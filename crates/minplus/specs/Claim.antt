@@ -4,13 +4,13 @@
 -- places", and the table of kinds 1 to 7.
 --
 --     Operation, due       kinds 1 to 3: the value that h has to have at a tick
---     Deviation, allowed   kinds 4 to 7: the value that f may have at a tick
+--     Deviation, allowed   kinds 4 to 7: the value that f may have at a tick; Tightness: a bound, or the least one
 --     Bound                f stays within what is allowed, at every tick
 --     VerticalDeviation    the trade's definition of the backlog, which kind 7 claims (backlog-exact)
 --     Kind, kindNumber     the seven kinds and their numbers
 --     kindBy               the kind of a number, if it is one's: exactly what kindNumber says (kind-by, kind-none)
 --     Claim, kindOf        a claim over its curves, and its kind
---     WellFormedClaim      its curves are well formed and X is within its limit; wellFormedClaim is the same as a test (well-formed-claim)
+--     WellFormedClaim      its curves are well formed and X is within its limit (maxX); wellFormedClaim is the same as a test (well-formed-claim)
 --     Claimed              what it says: the table's right column
 use Prim.Native.Nat.{ℕ, _+_, _-_, _≤_, _<_, min}
 use mathlib.Core.Path.{_≡_, refl}
@@ -64,7 +64,7 @@ kindNumber (bound delay exactly) = 5
 kindNumber (bound backlog atMost) = 6
 kindNumber (bound backlog exactly) = 7
 
-abbrev pub kinds : List Kind
+abbrev kinds : List Kind
 kinds =
     result sum ∷ result minimum ∷ result convolution ∷ bound delay atMost ∷ bound delay exactly ∷ bound backlog atMost ∷ bound backlog exactly ∷ []
 

@@ -4,7 +4,7 @@
 -- document 003 as its equation 2. All that is used of it is said with splits u + v = n:
 --
 --     conv f g n       the least f(u) + g(n-u), u from 0 to n
---     conv-lower       no split gives less
+--     conv-lower       no split gives less; conv-below: the same, by the tick
 --     conv-attained    some split gives it
 --     conv-above       so a number that no split is below is not above it
 --     conv-comm, conv-assoc

@@ -4,8 +4,9 @@
 --     In start count      a tick t with start <= t < start + count
 --     Greatest, Least     a signed number is the greatest or the least p(i) - q(i) over all i: a bound of them that is one of them
 --     Slower f g          c*d' < c'*d
+--     Crossed             d'*A - d*B <= (c'*d - c*d')*n, with each A = p - q and B = p' - q' put in and what is subtracted moved across;
+--                         SplitCrossed: the same with A and B increased
 --     minimumN-law        N of a minimum; convolutionN-law: of a convolution, at T = 0 too
---     (d'*A - d*B <= (c'*d - c*d')*n, with each A = p - q and B = p' - q' put in and what is subtracted moved across)
 use Prim.Native.Nat.{ℕ, zero, suc, _+_, _-_, _*_, _/_, _≤_, _<_, min, max}
 use mathlib.Core.Path.{_≡_, refl, sym, ap, _∙_, subst}
 use mathlib.Core.Logic.{_↔_}
@@ -13,7 +14,7 @@ use native.Mathlib.Omega.{arith}
 use native.Mathlib.Nat.{sub-add-cancel, add-sub-of-le, div-lt-iff-lt-mul, mul-le-mul-left, le-antisymm, le-refl}
 use Rattle.minplus.specs.Search.{greatest, least, greatest-upper, least-lower, greatest-attained, least-attained}
 use Rattle.minplus.specs.Curve.{Curve, value}
-use Rattle.minplus.specs.Horizon.{Signed, extremeOf, highest, lowest, earliest, roundedUp, crossing, minimumN, convolutionN, _increasedBy_}
+use Rattle.minplus.specs.Horizon.{Signed, extremeOf, highest, lowest, earliest, roundedUp, crossing, begunAt, minimumN, convolutionN, _increasedBy_}
 
 abbrev pub In : ℕ → ℕ → Type 0
 In start count = (t : ℕ) × (start ≤ t) × (t < start + count)
@@ -41,13 +42,13 @@ SplitCrossed f g n t t′ u =
     d′ * (d * value f t + d * value g T′) + d * (c′ * t′ + c′ * u) + c * d′ * n
     ≤ d * (d′ * value g t′ + d′ * value f u) + d′ * (c * t + c * T′) + c′ * d * n
 
-pub record Greatest (I : Type 0) (p q : I → ℕ) (A : Signed) : Type 0 where
-  pub upper : (i : I) → p i + A .minus ≤ A .plus + q i
-  pub attained : (i : I) × (p i + A .minus ≡ A .plus + q i)
+record Greatest (I : Type 0) (p q : I → ℕ) (A : Signed) : Type 0 where
+  upper : (i : I) → p i + A .minus ≤ A .plus + q i
+  attained : (i : I) × (p i + A .minus ≡ A .plus + q i)
 
-pub record Least (I : Type 0) (p q : I → ℕ) (B : Signed) : Type 0 where
-  pub lower : (i : I) → B .plus + q i ≤ p i + B .minus
-  pub attained : (i : I) × (p i + B .minus ≡ B .plus + q i)
+record Least (I : Type 0) (p q : I → ℕ) (B : Signed) : Type 0 where
+  lower : (i : I) → B .plus + q i ≤ p i + B .minus
+  attained : (i : I) × (p i + B .minus ≡ B .plus + q i)
 
 -- ---- the extremes of d*f(t) - c*t
 
@@ -75,14 +76,14 @@ module _ (f : ℕ → ℕ) (d c start count : ℕ) where
       let fits : a .0 < count = omega (arith, a .1) in
       ((start + a .0, omega arith, omega arith), term-at (a .0) (omega arith) ∙ ap (λ (y : ℕ). y + c * (start + a .0)) (sym (a .2)))
 
-  pub extreme-greatest : 0 < count → Greatest (In start count) (λ t. d * f (t .0)) (λ t. c * t .0) (extremeOf max f d c start count)
+  extreme-greatest : 0 < count → Greatest (In start count) (λ t. d * f (t .0)) (λ t. c * t .0) (extremeOf max f d c start count)
   unfolding extremeOf term
   extreme-greatest h = record {
     upper = λ t. omega (arith, term-of t, greatest-upper term (count - 1) (t .0 - start) (omega (arith, t .1, t .2)));
     attained = attained-at (greatest term (count - 1)) h (greatest-attained term (count - 1));
   }
 
-  pub extreme-least : 0 < count → Least (In start count) (λ t. d * f (t .0)) (λ t. c * t .0) (extremeOf min f d c start count)
+  extreme-least : 0 < count → Least (In start count) (λ t. d * f (t .0)) (λ t. c * t .0) (extremeOf min f d c start count)
   unfolding extremeOf term
   extreme-least h = record {
     lower = λ t. omega (arith, term-of t, least-lower term (count - 1) (t .0 - start) (omega (arith, t .1, t .2)));
@@ -107,7 +108,7 @@ least-more L M = record {
 pub bounds-fix : (S : ℕ → Type 0) (N M : ℕ) → ((n : ℕ) → (N ≤ n) ↔ S n) → ((n : ℕ) → (M ≤ n) ↔ S n) → N ≡ M
 bounds-fix S N M p q = le-antisymm (p M .1 (q M .0 (le-refl M))) (q N .1 (p N .0 (le-refl N)))
 
-pub rounded-up : (x y n : ℕ) → 0 < y → (roundedUp x y ≤ n) ↔ (x ≤ n * y)
+rounded-up : (x y n : ℕ) → 0 < y → (roundedUp x y ≤ n) ↔ (x ≤ n * y)
 unfolding roundedUp
 rounded-up x y n h = (
   λ le. omega (arith, div-lt-iff-lt-mul h .0 (let q : (x + (y - 1)) / y < suc n = omega arith in q)),
@@ -167,7 +168,7 @@ module _ (f g : Curve) (positive : 1 ≤ f .period) (positive′ : 1 ≤ g .peri
   convolutionN-law n = go (f .rank) refl
     where
       A : Signed
-      A = highest f increasedBy record { plus = f .period * value g (g .rank); minus = f .increment * g .rank }
+      A = highest f increasedBy begunAt f g
 
       B : Signed
       B = lowest g increasedBy earliest f g

@@ -6,6 +6,7 @@
 --
 --     Curve                     rank T, period d, increment c, listed values
 --     maxListed, maxUnits       the limits
+--     count f, listedAt f n     T + d, and the n-th listed value
 --     WellFormed f              every limit of that paragraph; wellFormed f is the same as a test that computes (well-formed)
 --     value f n                 f(n), at any tick n
 --     value-listed              below T + d it is the listed value

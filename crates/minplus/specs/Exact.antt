@@ -26,7 +26,7 @@ use Rattle.minplus.specs.Gains.{Gains, below-forever, equal-forever, gai
 use Rattle.minplus.specs.Horizon.{commonPeriod, fullPeriod, horizon, lastRank, maxHorizon, rankOf}
 use Rattle.minplus.specs.Meaning.{Loose, Meaning, Proper, Rule, Tight}
 use Rattle.minplus.specs.Ranks.{common-positive, gainOver, gain-le, gain-lt, left-gains, rank-gains, right-gains}
-use Rattle.minplus.specs.Search.{IsFirst, first-at, first-below, first-nowhere, firstBelow, nowhere, somewhere}
+use Rattle.minplus.specs.Search.{IsFirst, first-at, first-below, first-nowhere, firstBelow, nowhere, somewhere, true-unless, false-unless}
 use Rattle.minplus.specs.Verdict.{Verdict, accepted, breaks, byRate, firstBreak, inOrder, leftAt, lessHolds, notJudged, notLeast, refutedAt, refutedByRate, rightAt, tried, verdict}
 
 -- ---- a tick's test
@@ -40,14 +40,6 @@ rule-broken : (c : Claim) (n : ℕ) → breaks c n ≡ true → ¬ (Rule c n)
 unfolding breaks leftAt rightAt
 rule-broken (equals op f g h) n e r = eqb-false _ _ (not-true _ e) (sym r)
 rule-broken (bounds δ t f g X) n e r = not-le-of-lt (ltb-true _ _ e) r
-
-true-unless : (b : Bool) → ¬ (b ≡ false) → b ≡ true
-true-unless true h = refl
-true-unless false h = absurd (h refl)
-
-false-unless : (b : Bool) → ¬ (b ≡ true) → b ≡ false
-false-unless true h = absurd (h refl)
-false-unless false h = refl
 
 -- ---- from the tried ticks to every tick
 

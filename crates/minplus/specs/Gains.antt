@@ -16,6 +16,8 @@ use mathlib.Core.Path.{_≡_, sym, ap, _∙_, subst}
 use native.Mathlib.Omega.{arith}
 use native.Mathlib.Nat.{mul-le-mul-left, sub-add-cancel, div-mul-cancel}
 use native.Mathlib.Decide.{decLe}
+use mathlib.Core.WellFounded.{WellFounded·induction}
+use lib.WfN.{Nat·lt-wfRel}
 
 pub record Gains (F : ℕ → ℕ) (K P a : ℕ) : Type 0 where
   pub gain : (n : ℕ) → K ≤ n → F (n + P) ≡ F n + a
@@ -50,15 +52,11 @@ gains-sum {F} {G} GF GG = record { gain = λ n le. omega (arith, GF .gain n le, 
 
 -- a fact at every tick, from the ticks up to K + P - 1 and a step over one period: P ticks are never left out, since P > 0
 module _ (S : ℕ → Type 0) (K P : ℕ) (positive : 0 < P) (first : (n : ℕ) → n < K + P → S n) (step : (n : ℕ) → K ≤ n → S n → S (n + P)) where
-  below : (k n : ℕ) → n < k → S n
-  below zero n h = absurd (omega (arith, h))
-  below (suc k) n h = elim (decLe (K + P) n) [
-    | yes le ↦ subst S (sub-add-cancel {n = n} {m = P} (omega arith)) (step (n - P) (omega arith) (below k (n - P) (omega arith)))
-    | no ge ↦ first n (omega (arith, ge))
-  ]
-
   pub every-period : (n : ℕ) → S n
-  every-period n = below (suc n) n (omega arith)
+  every-period n = WellFounded·induction (Nat·lt-wfRel .wf) {C = S} n (λ m below. elim (decLe (K + P) m) [
+    | yes le ↦ subst S (sub-add-cancel {n = m} {m = P} (omega arith)) (step (m - P) (omega arith) (below (m - P) (omega arith)))
+    | no ge ↦ first m (omega (arith, ge))
+  ])
 
 pub equal-forever : {F G : ℕ → ℕ} {K P a b : ℕ} → 0 < P → Gains F K P a → Gains G K P b
     → ((n : ℕ) → n ≤ K + P → F n ≡ G n) → (n : ℕ) → F n ≡ G n

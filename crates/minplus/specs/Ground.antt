@@ -6,13 +6,12 @@
 --     well-formed-A, well-formed-B, well-formed-AB     the theorems' hypotheses can be met: by the curves of W4 and W8
 --     convolution-AB, exact-delay-AB                   so W4 and W8 hold at every tick, without end
 --     crossed-AB        and Slower, which the laws of N ask, can be met as well
-use Prim.Native.Nat.{ℕ, suc, zero, _+_, _≤_, _<_}
+use Prim.Native.Nat.{ℕ, _+_, _≤_}
 use lib.Dec.{lit<, lit≤}
-use lib.ListN.{getD, length, replicate}
+use lib.ListN.{getD, replicate, List·getD-map}
 use mathlib.Core.Bool.{Bool, false, true}
 use mathlib.Core.List.{List, [], _∷_, map}
 use mathlib.Core.Path.{_≡_, ap, refl, sym, _∙_}
-use native.Mathlib.Nat.{le-of-suc-le-suc, not-suc-le-zero}
 use native.Mathlib.Omega.{arith}
 use Rattle.minplus.specs.Claim.{Claim, Claimed, atMost, backlog, bounds, convolution, delay, due, equals, exactly, kindNumber, kindOf, minimum, sum}
 use Rattle.minplus.specs.Conv.{conv}
@@ -202,25 +201,24 @@ ground : map (λ r. answer (r .asked)) table ≡ map (λ r. r .answered) table
 unfolding answer table
 ground = refl
 
-each-row : (rows : List Row) (f : Row → Answer) (i : ℕ) (r : Row) (a : Answer) → i < length rows → getD (map f rows) i a ≡ f (getD rows i r)
-each-row [] f i r a lt = absurd (not-suc-le-zero lt)
-each-row (row ∷ rows) f zero r a lt = refl
-each-row (row ∷ rows) f (suc i) r a lt = each-row rows f i r a (le-of-suc-le-suc lt)
+-- row i, and the first one past the last
+row : ℕ → Row
+unfolding _is_
+row i = getD table i (valueOf A 5 is number 8)
 
-ground-at : (i : ℕ) (r : Row) → i < length table → answer ((getD table i r) .asked) ≡ (getD table i r) .answered
-ground-at i r lt =
-    sym (each-row table (λ q. answer (q .asked)) i r (r .answered) lt)
-    ∙ ap (λ (l : List Answer). getD l i (r .answered)) ground
-    ∙ each-row table (λ q. q .answered) i r (r .answered) lt
+ground-at : (i : ℕ) → answer (row i .asked) ≡ row i .answered
+unfolding row answer A
+ground-at i =
+    sym (List·getD-map (λ (r : Row). answer (r .asked)) table i (valueOf A 5 is number 8))
+    ∙ ap (λ (l : List Answer). getD l i (number 8)) ground
+    ∙ List·getD-map (λ (r : Row). r .answered) table i (valueOf A 5 is number 8)
 
 -- an accepted row of the table
-accepted-at : (i : ℕ) (c : Claim) → i < length table → getD table i (verdictOf c is judged accepted) ≡ verdictOf c is judged accepted
-    → verdict c ≡ accepted
+accepted-at : (i : ℕ) (c : Claim) → row i ≡ verdictOf c is judged accepted → verdict c ≡ accepted
 unfolding _is_ answer
-accepted-at i c lt e = judged-inj (sym (ap (λ (r : Row). answer (r .asked)) e) ∙ ground-at i (verdictOf c is judged accepted) lt ∙ ap (λ (r : Row). r .answered) e)
-  where
-    judged-inj : {v w : Verdict} → judged v ≡ judged w → v ≡ w
-    judged-inj e = cc
+accepted-at i c e =
+    let said : judged (verdict c) ≡ judged accepted = sym (ap (λ (r : Row). answer (r .asked)) e) ∙ ground-at i ∙ ap (λ (r : Row). r .answered) e in
+    cc
 
 well-formed-A : WellFormed A
 unfolding wellFormed A
@@ -235,10 +233,10 @@ unfolding wellFormed convAB
 well-formed-AB = well-formed convAB .0 refl
 
 convolution-AB : (n : ℕ) → value convAB n ≡ conv (value A) (value B) n
-unfolding table due
+unfolding row table due
 convolution-AB =
     let c : Claim = equals convolution A B convAB in
-    accepted-exactly c (well-formed-proper c (well-formed-A, well-formed-B, well-formed-AB)) .0 (accepted-at 5 c (lit< tt) refl) .1
+    accepted-exactly c (well-formed-proper c (well-formed-A, well-formed-B, well-formed-AB)) .0 (accepted-at 5 c refl) .1
 
 -- where rates differ: the N of W3 is 7, and from there on A is below B
 crossed-AB : (n : ℕ) → 7 ≤ n → value A n ≤ value B n
@@ -246,7 +244,7 @@ unfolding minimumN A B
 crossed-AB n le = crossed A B (well-formed-A .period-positive) (well-formed-B .period-positive) (lit< tt) n le (omega arith) (omega arith)
 
 exact-delay-AB : Claimed (bounds delay exactly A B 3)
-unfolding table
+unfolding row table
 exact-delay-AB =
     let c : Claim = bounds delay exactly A B 3 in
-    accepted-exactly c (well-formed-proper c (well-formed-A, well-formed-B, lit≤ tt)) .0 (accepted-at 11 c (lit< tt) refl) .1
+    accepted-exactly c (well-formed-proper c (well-formed-A, well-formed-B, lit≤ tt)) .0 (accepted-at 11 c refl) .1

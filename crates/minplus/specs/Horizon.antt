@@ -8,10 +8,10 @@
 --     slower, byRates        rates compared by cross products, and a rank for each of the three ways that they can stand
 --     Signed, increasedBy    plus less minus
 --     extremeOf              the greatest or the least d*f(t) - c*t over some ticks t
---     highest, lowest, earliest     the A, the B and the last list's least value of document 01
+--     highest, lowest, earliest     the A, the B and the last list's least value of document 01; begunAt: what A is increased by
 --     roundedUp, crossing    x/y rounded up; N from A and B
 --     minimumN, convolutionN N where f is the slower one; Crossing.antt pins both without shifts
---     rankOf                 R; lastRank and fullPeriod: K and P
+--     rankOf                 R, by slowMinimum and slowConvolution where f is the slower one; lastRank and fullPeriod: K and P
 --     horizon, maxHorizon    of a claim, and the limit above which nothing is judged
 use Prim.Native.Nat.{ℕ, zero, suc, _+_, _-_, _*_, _/_, min, max}
 use mathlib.Core.Bool.{Bool, true, false}
@@ -81,15 +81,17 @@ unfoldable pub minimumN : Curve → Curve → ℕ
 unfolding crossing highest lowest
 minimumN f g = crossing f g (highest f) (lowest g)
 
+-- "d*g(T') - c*T'"
+abbrev pub begunAt : Curve → Curve → Signed
+begunAt f g = record { plus = f .period * value g (g .rank); minus = f .increment * g .rank }
+
 -- "N as above but with A increased by d*g(T') - c*T', and B increased by the least d'*f(t) - c'*t over 0 <= t < T.
 -- If T = 0 that last list is empty and N is 0."
 unfoldable pub convolutionN : Curve → Curve → ℕ
 unfolding crossing highest lowest earliest value
 convolutionN f g = elim (f .rank) [
   | zero ↦ 0
-  | suc _ ↦ crossing f g
-      (highest f increasedBy record { plus = f .period * value g (g .rank); minus = f .increment * g .rank })
-      (lowest g increasedBy earliest f g)
+  | suc _ ↦ crossing f g (highest f increasedBy begunAt f g) (lowest g increasedBy earliest f g)
 ]
 
 -- R: "Minimum, f slower: R = max(T,T',N)" and "Convolution, f slower: R = max(T+T'+D, N)"

@@ -4,7 +4,8 @@
 --     crossed           at and after N the slower curve of a minimum is below
 --     split-crossed     at and after N a split that leaves f less than T ticks is no better than the one that leaves g T' ticks
 --     conv-gains        a convolution gains the smaller gain, where such splits are not needed
---     gainOf, rank-gains     the gain over D, and the theorem for every operation
+--     gainOver          what a curve gains over D (common-positive, left-gains, right-gains); gain-le, gain-lt: the slower one gains less
+--     gainOf, rank-gains     the gain over D, by combined, and the theorem for every operation
 use Prim.Native.Nat.{ℕ, _+_, _-_, _*_, _/_, _%_, _≤_, _<_, min, max}
 use mathlib.Core.Path.{_≡_, refl, sym, ap, _∙_, subst}
 use mathlib.Core.Bool.{Bool, true, false}
@@ -21,11 +22,11 @@ use Rattle.minplus.specs.Horizon.{commonPeriod, slower, byRates, minimum
 use Rattle.minplus.specs.Crossing.{In, Slower, minimumN-law, convolutionN-law}
 
 -- a tick from the rank on, brought back into the first period: t + k*d, where f is f(t) + k*c
-pub record FirstPeriod (f : Curve) (m : ℕ) : Type 0 where
-  pub tick : In (f .rank) (f .period)
-  pub periods : ℕ
-  pub same : tick .0 + periods * f .period ≡ m
-  pub gained : value f m ≡ value f (tick .0) + periods * f .increment
+record FirstPeriod (f : Curve) (m : ℕ) : Type 0 where
+  tick : In (f .rank) (f .period)
+  periods : ℕ
+  same : tick .0 + periods * f .period ≡ m
+  gained : value f m ≡ value f (tick .0) + periods * f .increment
 
 first-period : (f : Curve) → 1 ≤ f .period → (m : ℕ) → f .rank ≤ m → FirstPeriod f m
 first-period f positive m le =
@@ -66,7 +67,7 @@ module _ (f g : Curve) (positive : 1 ≤ f .period) (positive′ : 1 ≤ g .peri
             (omega (arith, minimumN-law f g positive positive′ slow n .0 le (a .tick) (b .tick))),
       )
 
-  pub split-crossed : (n m p u : ℕ) → convolutionN f g ≤ n → m + g .rank ≡ n → u + p ≡ n → f .rank ≤ m → u < f .rank
+  split-crossed : (n m p u : ℕ) → convolutionN f g ≤ n → m + g .rank ≡ n → u + p ≡ n → f .rank ≤ m → u < f .rank
       → value f m + value g (g .rank) ≤ value g p + value f u
   split-crossed n m p u le e e′ r early =
       let a = first-period f positive m r in
@@ -79,7 +80,7 @@ module _ (f g : Curve) (positive : 1 ≤ f .period) (positive′ : 1 ≤ g .peri
 -- ---- the rank theorems on functions that gain
 
 -- a convolution, where `early` serves the splits that leave F less than T ticks
-pub conv-gains : {F G : ℕ → ℕ} {T T′ D a b : ℕ} (R : ℕ) → Gains F T D a → Gains G T′ D b → a ≤ b → T + T′ + D ≤ R
+conv-gains : {F G : ℕ → ℕ} {T T′ D a b : ℕ} (R : ℕ) → Gains F T D a → Gains G T′ D b → a ≤ b → T + T′ + D ≤ R
     → ((n u v : ℕ) → R ≤ n → u + v ≡ n → u < T → conv F G (n + D) ≤ F u + G v + a) → Gains (conv F G) R D a
 conv-gains {F} {G} {T} {T′} {D} {a} {b} R GF GG slow far early = record { gain = λ n le. le-antisymm (over n le) (under n le) }
   where
@@ -101,7 +102,7 @@ conv-gains {F} {G} {T} {T′} {D} {a} {b} R GF GG slow far early = record { gain
           omega (arith, gained-back GG v late, conv-below F G n u (v - D) (omega arith))
     ])
 
-pub due-comm : (op : Operation) (F G : ℕ → ℕ) (n : ℕ) → due op F G n ≡ due op G F n
+due-comm : (op : Operation) (F G : ℕ → ℕ) (n : ℕ) → due op F G n ≡ due op G F n
 unfolding due
 due-comm sum F G n = omega arith
 due-comm minimum F G n = omega arith
@@ -163,18 +164,18 @@ module _ (f g : Curve) (positive : 1 ≤ f .period) (positive′ : 1 ≤ g .peri
       eq-of-mul-eq-mul-left (f .period * g .period) (mul-pos positive positive′) _ _
       (scaled-left ∙ ap (λ (x : ℕ). commonPeriod f g * x) e ∙ sym scaled-right)
 
-  pub sum-gains : Gains (due sum (value f) (value g)) (max (f .rank) (g .rank)) (commonPeriod f g) (gainOf sum f g)
+  sum-gains : Gains (due sum (value f) (value g)) (max (f .rank) (g .rank)) (commonPeriod f g) (gainOf sum f g)
   unfolding due gainOf
   sum-gains = gains-sum (gains-later (max (f .rank) (g .rank)) (omega arith) left-gains) (gains-later (max (f .rank) (g .rank)) (omega arith) right-gains)
 
-  pub minimum-equal : f .increment * g .period ≡ g .increment * f .period
+  minimum-equal : f .increment * g .period ≡ g .increment * f .period
       → Gains (due minimum (value f) (value g)) (max (f .rank) (g .rank)) (commonPeriod f g) (gainOf minimum f g)
   unfolding due gainOf
   minimum-equal e = record {
     gain = λ n le. omega (arith, left-gains .gain n (omega arith), right-gains .gain n (omega arith), equal-gains e);
   }
 
-  pub minimum-slower : Slower f g
+  minimum-slower : Slower f g
       → Gains (due minimum (value f) (value g)) (slowMinimum f g) (commonPeriod f g) (gainOf minimum f g)
   unfolding due gainOf
   minimum-slower slow = record {
@@ -184,7 +185,7 @@ module _ (f g : Curve) (positive : 1 ≤ f .period) (positive′ : 1 ≤ g .peri
         omega (arith, left-gains .gain n (omega arith), below n (omega arith), below (n + commonPeriod f g) (omega arith), gain-le (omega arith));
   }
 
-  pub convolution-equal : f .increment * g .period ≡ g .increment * f .period
+  convolution-equal : f .increment * g .period ≡ g .increment * f .period
       → Gains (due convolution (value f) (value g)) (f .rank + g .rank + commonPeriod f g) (commonPeriod f g) (gainOf convolution f g)
   unfolding due gainOf
   convolution-equal e =
@@ -198,7 +199,7 @@ module _ (f g : Curve) (positive : 1 ≤ f .period) (positive′ : 1 ≤ g .peri
         same,
       )))
 
-  pub convolution-slower : Slower f g
+  convolution-slower : Slower f g
       → Gains (due convolution (value f) (value g)) (slowConvolution f g) (commonPeriod f g) (gainOf convolution f g)
   unfolding due gainOf
   convolution-slower slow =

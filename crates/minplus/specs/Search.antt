@@ -5,8 +5,9 @@
 --     best-next         one more number; best-same: it depends on those numbers alone
 --     least h k         the least of h(0) to h(k): a lower bound of them (least-lower) that is one of them (least-attained)
 --     greatest h k      the greatest of them, likewise (greatest-upper, greatest-attained)
---     firstBelow p k    the first n < k with p(n), if there is one; IsFirst says so (first-below)
+--     firstBelow p k    the first n < k with p(n), if there is one; IsFirst says so (first-below); first-nowhere, first-at: the answer from what it would find
 --     allBelow p k      p(n) for every n < k (all-below)
+--     both-true         two tests; true-unless, false-unless: a test that can't have the other answer
 --     numbered number l k     the first of l that has the number k: it has it (numbered-so); none, if none has it (numbered-none)
 use Prim.Native.Nat.{ℕ, zero, suc, _-_, _≤_, _<_, min, max}
 use mathlib.Core.Path.{_≡_, refl, sym, ap, _∙_, subst}
@@ -16,20 +17,10 @@ use mathlib.Core.List.{List, [], _∷_}
 use mathlib.Core.Option.{Option, none, some, Option·some-injective}
 use lib.Dec.{eqb}
 use borrow.Author.Tests.{eqb-true, ne-eqb}
+use borrow.Author.Count.{below-more}
 use native.Mathlib.Omega.{arith}
-use native.Mathlib.Nat.{eq-or-lt-of-le, le-of-suc-le-suc, le-refl, min-le-right, le-max-right, min-eq-left, min-eq-right, max-eq-left, max-eq-right, le-of-lt, lt-of-not-le, le-antisymm}
+use native.Mathlib.Nat.{le-refl, min-le-right, le-max-right, min-eq-left, min-eq-right, max-eq-left, max-eq-right, le-of-lt, lt-of-not-le}
 use native.Mathlib.Decide.{decLe}
-
-le-of-not-lt : (m n : ℕ) → ¬ (n < m) → m ≤ n
-le-of-not-lt m n h = omega (arith, h)
-
--- what holds below k and at k holds below k + 1
-below-suc : {S : ℕ → Type 0} {k : ℕ} → ((n : ℕ) → n < k → S n) → S k → (n : ℕ) → n < suc k → S n
-below-suc {S} {k} all here n lt = go (eq-or-lt-of-le (le-of-suc-le-suc lt))
-  where
-    go : (n ≡ k) ⊎ (n < k) → S n
-    go (inl e) = subst S (sym e) here
-    go (inr less) = all n less
 
 unfoldable pub best : (ℕ → ℕ → ℕ) → (ℕ → ℕ) → ℕ → ℕ
 best choose h zero = h zero
@@ -52,9 +43,9 @@ module _ (choose : ℕ → ℕ → ℕ) (R : ℕ → ℕ → Type 0) (here : (a 
   unfolding best
   best-bounds h zero n lt = let e : n ≡ zero = omega arith in subst (λ (m : ℕ). R (h zero) (h m)) (sym e) (here (h zero))
   best-bounds h (suc k) n lt =
-      below-suc {S = λ m. R (choose (best choose h k) (h (suc k))) (h m)}
+      below-more (λ m. R (choose (best choose h k) (h (suc k))) (h m)) (suc k)
       (λ m l. earlier (best choose h k) (h (suc k)) (h m) (best-bounds h k m l))
-      (later (best choose h k) (h (suc k))) n lt
+      (later (best choose h k) (h (suc k))) n (omega arith)
 
 module _ (choose : ℕ → ℕ → ℕ) (either : (a b : ℕ) → (choose a b ≡ a) ⊎ (choose a b ≡ b)) where
   best-attained : (h : ℕ → ℕ) (k : ℕ) → (n : ℕ) × (n ≤ k) × (best choose h k ≡ h n)
@@ -103,7 +94,7 @@ first-below p (suc k) = go (firstBelow p k) (first-below p k) (p k) refl
         → IsFirst p (suc k) (elim o [ some n ↦ some n | none ↦ elim b [ true ↦ some k | false ↦ none ] ])
     go (some _) (somewhere n lt e before) b q = somewhere n (omega arith) e before
     go none (nowhere all) true q = somewhere k (omega arith) q all
-    go none (nowhere all) false q = nowhere (below-suc {S = λ n. p n ≡ false} all q)
+    go none (nowhere all) false q = nowhere (λ n lt. below-more (λ m. p m ≡ false) k all q n (omega arith))
 
 -- the search's answer from what it would find
 pub first-nowhere : (p : ℕ → Bool) (k : ℕ) → ((n : ℕ) → n < k → p n ≡ false) → firstBelow p k ≡ none
@@ -118,9 +109,11 @@ first-at p k n lt here before = go (firstBelow p k) (first-below p k)
   where
     go : (o : Option ℕ) → IsFirst p k o → o ≡ some n
     go none (nowhere all) = absurd (true≢false (sym here ∙ all n lt))
-    go (some _) (somewhere m lt′ here′ before′) = ap some (le-antisymm
-        (le-of-not-lt m n (λ less. true≢false (sym here ∙ before′ n less)))
-        (le-of-not-lt n m (λ less. true≢false (sym here′ ∙ before m less))))
+    go (some _) (somewhere m lt′ here′ before′) =
+        let no-later : ¬ (n < m) = λ less. true≢false (sym here ∙ before′ n less) in
+        let no-sooner : ¬ (m < n) = λ less. true≢false (sym here′ ∙ before m less) in
+        let same : m ≡ n = omega (arith, no-later, no-sooner) in
+        ap some same
 
 unfoldable pub allBelow : (ℕ → Bool) → ℕ → Bool
 allBelow p zero = true
@@ -130,13 +123,21 @@ pub both-true : (a b : Bool) → (a && b ≡ true) ↔ ((a ≡ true) × (b ≡ t
 both-true true b = (λ e. (refl, e), λ t. t .1)
 both-true false b = (λ e. absurd (false≢true e), λ t. t .0)
 
+pub true-unless : (b : Bool) → ¬ (b ≡ false) → b ≡ true
+true-unless true h = refl
+true-unless false h = absurd (h refl)
+
+pub false-unless : (b : Bool) → ¬ (b ≡ true) → b ≡ false
+false-unless true h = absurd (h refl)
+false-unless false h = refl
+
 pub all-below : (p : ℕ → Bool) (k : ℕ) → (allBelow p k ≡ true) ↔ ((n : ℕ) → n < k → p n ≡ true)
 unfolding allBelow
 all-below p zero = (λ e n lt. absurd (omega (arith, lt)), λ all. refl)
 all-below p (suc k) =
     let both = both-true (allBelow p k) (p k) in
     let rest = all-below p k in (
-      λ e. below-suc {S = λ m. p m ≡ true} (rest .0 (both .0 e .0)) (both .0 e .1),
+      λ e n lt. below-more (λ m. p m ≡ true) k (rest .0 (both .0 e .0)) (both .0 e .1) n (omega arith),
       λ all. both .1 (rest .1 (λ n lt. all n (omega arith)), all k (omega arith)),
     )
 
@@ -147,7 +148,7 @@ numbered number (a ∷ rest) k = elim (eqb k (number a)) [ true ↦ some a | fal
 module _ {A : Type 0} (number : A → ℕ) where
   pub numbered-so : (l : List A) (k : ℕ) (a : A) → numbered number l k ≡ some a → k ≡ number a
   unfolding numbered
-  numbered-so [] k a e = let z : _≡_ {A = ℕ} 0 1 = cc in absurd (omega (arith, z))
+  numbered-so [] k a e = cc
   numbered-so (a′ ∷ rest) k a e = go (eqb k (number a′)) refl (numbered-so rest k a) e
     where
       go : (b : Bool) → eqb k (number a′) ≡ b → (numbered number rest k ≡ some a → k ≡ number a)

@@ -2,9 +2,9 @@
 --
 -- Document 01, 'Verdicts'. Nothing here speaks of ticks beyond the horizon: Exact.antt shows what a verdict says of them.
 --
---     Verdict, recordOf     the five verdicts; the code and the tick, left and right value of each
+--     Verdict, recordOf     the five verdicts; the Record of each: code, tick, left and right value
 --     leftAt, rightAt       the two values that the record of a refuted tick holds
---     breaks, tried         whether a tick breaks the rule; how many ticks, from 0 on, are tried
+--     breaks, tried         whether a tick breaks the rule; how many ticks, from 0 on, are tried; firstBreak: the first of them that does
 --     byRate, lessHolds     the tests of codes 3 and 4
 --     inOrder, verdict      the codes in their order
 use Prim.Native.Nat.{ℕ, suc, _-_}

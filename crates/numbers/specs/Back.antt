@@ -1,52 +1,60 @@
 -- Reading and writing a number undo each other.
 --
---     Bytes s         every member of s is below 256: bytes-take, bytes-drop, bytes-append; bytes-of: a number's bytes are
+--     Bytes s         every member of s is below 256: bytes-take, bytes-drop, bytes-none, bytes-append, bytes-flat; bytes-of: a number's bytes are
 --     length-then     how long a number's bytes are with a list after them
 --     number-on       what is read after a list is read of the rest; number-front, number-back: a number is read where its bytes stand
 --     bytes-again     the bytes of a number that is read are those that stand there; bytes-then: and those after them go on
 use Prim.Native.Nat.{ℕ, zero, suc, _+_, _*_, _^_, _/_, _%_, _≤_, _<_}
-use mathlib.Core.Path.{_≡_, refl, sym, ap, ap₂, _∙_}
+use mathlib.Core.Path.{_≡_, refl, sym, ap, ap₂, subst, _∙_}
 use mathlib.Core.Bool.{Bool, true, false}
-use mathlib.Core.List.{List, [], _∷_, _++_}
+use mathlib.Core.List.{List, [], _∷_, _++_, flatMap}
+use mathlib.Mathlib.Data.List.Defs.{Forall}
+use mathlib.Mathlib.Data.List.Basic.{forall-append}
 use native.Mathlib.Omega.{arith}
 use native.Mathlib.Nat.{mod-lt}
 use native.Mathlib.Numerals.{add-one}
-use lib.ListN.{length, take, drop, getD, length-append, length-take, length-drop}
-use lib.Seq.{take-add, take-at, drop-at, drop-drop, take-suc, getD-take, getD-drop}
+use lib.ListN.{length, take, drop, getD, length-append, length-drop, take-append-drop}
+use lib.Seq.{take-add, take-at, drop-at, drop-drop, take-suc, getD-drop}
 use lib.Dec.{leb}
 use borrow.Author.Tests.{leb-true, leb-false}
+use Rattle.numbers.specs.Lists.{forall-at, forall-more}
 use Rattle.numbers.specs.Numbers.{numberAt, numberAfter, number-whole, number-torn, number-split, number-byte}
 use Rattle.numbers.specs.Put.{bytesOf, length-bytes, bytes-back}
 
+abbrev byte : ℕ → Type 0
+byte b = b < 256
+
 abbrev pub Bytes : List ℕ → Type 0
-Bytes s = (n : ℕ) → n < length s → getD s n 0 < 256
+Bytes s = Forall byte s
 
 -- ---- bytes
 
-pub bytes-take : (k : ℕ) (s : List ℕ) → Bytes s → Bytes (take k s)
-bytes-take k s small n lt =
-    let inside : (n < k) × (n < length s) = omega (arith, lt, length-take k s) in
-    rw (getD-take k s n 0 (inside .0)) (small n (inside .1))
+module _ (k : ℕ) (s : List ℕ) (small : Bytes s) where
+  split : Bytes (take k s) × Bytes (drop k s)
+  split = forall-append byte (take k s) (drop k s) .0 (subst Bytes (sym (take-append-drop k s)) small)
 
-pub bytes-drop : (k : ℕ) (s : List ℕ) → Bytes s → Bytes (drop k s)
-bytes-drop k s small n lt = rw (getD-drop k s n 0) (small (k + n) (omega (arith, lt, length-drop k s)))
+  pub bytes-take : Bytes (take k s)
+  bytes-take = split .0
+
+  pub bytes-drop : Bytes (drop k s)
+  bytes-drop = split .1
+
+pub bytes-none : Bytes []
+unfolding Forall
+bytes-none = tt
 
 pub bytes-append : (s t : List ℕ) → Bytes s → Bytes t → Bytes (s ++ t)
-bytes-append [] t small small′ = small′
-bytes-append (b ∷ s) t small small′ = each (bytes-append s t (λ n lt. small (suc n) (omega (arith, lt))) small′)
-  where
-    each : Bytes (s ++ t) → Bytes (b ∷ (s ++ t))
-    each rest zero lt = small zero (omega arith)
-    each rest (suc n) lt = rest n (omega (arith, lt))
+bytes-append s t small small′ = forall-append byte s t .1 (small, small′)
+
+pub bytes-flat : {A : Type 0} (f : A → List ℕ) → ((x : A) → Bytes (f x)) → (l : List A) → Bytes (flatMap f l)
+unfolding flatMap
+bytes-flat f small [] = bytes-none
+bytes-flat f small (x ∷ l) = bytes-append (f x) (flatMap f l) (small x) (bytes-flat f small l)
 
 pub bytes-of : (w n : ℕ) → Bytes (bytesOf w n)
 unfolding bytesOf
-bytes-of zero n = λ k lt. absurd (omega (arith, lt))
-bytes-of (suc w) n = bytes-append (bytesOf w (n / 256)) (n % 256 ∷ []) (bytes-of w (n / 256)) last
-  where
-    last : Bytes (n % 256 ∷ [])
-    last zero lt = mod-lt n (omega arith)
-    last (suc k) lt = omega arith
+bytes-of zero n = bytes-none
+bytes-of (suc w) n = forall-more byte (bytesOf w (n / 256)) (n % 256) (bytes-of w (n / 256)) (mod-lt n (omega arith))
 
 pub length-then : (w n : ℕ) (s : List ℕ) → length (bytesOf w n ++ s) ≡ w + length s
 length-then w n s = length-append (bytesOf w n) s ∙ ap (λ (k : ℕ). k + length s) (length-bytes w n)
@@ -87,12 +95,12 @@ unfolding bytesOf
 bytes-again zero i s small fits = refl
 bytes-again (suc w) i s small fits =
     let b : ℕ = getD s (i + w) 0 in
-    let byte : b < 256 = small (i + w) (omega (arith, fits)) in
+    let below : b < 256 = forall-at byte s 0 small (i + w) (omega (arith, fits)) in
     let whole : numberAt (suc w) s i ≡ numberAt w s i * 256 + b =
     ap (λ (k : ℕ). numberAt k s i) (sym (add-one w)) ∙ number-split w 1 i s (omega (arith, fits))
     ∙ ap (λ (x : ℕ). numberAt w s i * 256 + x) (number-byte (i + w) s (omega (arith, fits))) in
-    let high : (numberAt w s i * 256 + b) / 256 ≡ numberAt w s i = omega (arith, byte) in
-    let low : (numberAt w s i * 256 + b) % 256 ≡ b = omega (arith, byte) in
+    let high : (numberAt w s i * 256 + b) / 256 ≡ numberAt w s i = omega (arith, below) in
+    let low : (numberAt w s i * 256 + b) % 256 ≡ b = omega (arith, below) in
     let last : getD (drop i s) w 0 ≡ b = getD-drop i s w 0 in
     rw (whole, high, low, bytes-again w i s small (omega (arith, fits)), ← last) (sym (take-suc (drop i s) w 0 (omega (arith, fits, length-drop i s))))
 

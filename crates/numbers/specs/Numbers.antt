@@ -2,7 +2,8 @@
 --
 --     numberAfter      a list of bytes as one number, after a number that stands before it
 --     numberAt w s i   the number in the w bytes from place i of s; 0 where they are not all there
---     number-split     w + v bytes are w bytes and v bytes after them; number-byte: one byte
+--     number-whole, number-torn     numberAt, by whether they are all there
+--     number-split     w + v bytes are w bytes and v bytes after them (after-append); number-byte: one byte
 use Prim.Native.Nat.{ℕ, _+_, _*_, _^_, _≤_, _<_}
 use mathlib.Core.Path.{_≡_, refl, ap, _∙_}
 use mathlib.Core.Bool.{true, false}

@@ -1,7 +1,7 @@
 -- What stands in lent bytes after something was written into them.
 --
 --     put s at t          s with t over it from place at on
---     putWhole s at t     the same where all of t has room, else s as it was
+--     putWhole s at t     the same where all of t has room (put-fits), else s as it was (put-short)
 --     bytesOf w n         the w bytes of a number, high byte first; of a larger number its last w
 --     bytes-back          read again they are the number; length-bytes: they are w; put-bytes: written from the last one on
 --     put-nothing, put-last, put-put     nothing, one byte more, one after the other
@@ -60,7 +60,7 @@ module _ (s : List ℕ) (at : ℕ) (t : List ℕ) where
   drop-put fits = drop-at (take at s ++ t) (drop (at + length t) s) (at + length t) (head (omega (arith, fits)))
 
   -- the last byte may be written first
-  pub put-last : (b : ℕ) → at + length t < length s → put s at (t ++ (b ∷ [])) ≡ put (set s (at + length t) b) at t
+  put-last : (b : ℕ) → at + length t < length s → put s at (t ++ (b ∷ [])) ≡ put (set s (at + length t) b) at t
   unfolding put
   put-last b fits =
       let k : ℕ = at + length t in

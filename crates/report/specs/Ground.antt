@@ -10,15 +10,15 @@ use Prim.Native.Nat.{ℕ, _+_, _-_, _*_, _^_}
 use mathlib.Core.Path.{_≡_, refl}
 use mathlib.Core.List.{List, [], _∷_, _++_}
 use lib.ListN.{length, replicate}
+use Rattle.minplus.specs.Verdict.{Verdict, accepted, refutedAt, refutedByRate, notLeast, notJudged, recordOf}
 use Rattle.numbers.specs.Numbers.{numberAt}
-use Rattle.numbers.specs.Put.{bytesOf}
 use Rattle.judge.specs.Answer.{answerWith}
+use Rattle.judge.specs.Records.{recordBytes}
 use Rattle.report.specs.Text.{bytes, decimal}
 use Rattle.report.specs.Lines.{part, verdictWords, claimLine, reportOf, maxLine}
 
--- "A record is 21 bytes: code, tick (4 bytes), left value (8), right value (8)"
-abbrev record-of : ℕ → ℕ → ℕ → ℕ → List ℕ
-record-of code tick left right = bytesOf 1 code ++ bytesOf 4 tick ++ bytesOf 8 left ++ bytesOf 8 right
+abbrev record-on : Verdict → List ℕ
+record-on v = recordBytes (recordOf v)
 
 pub w8-lines : reportOf (answerWith 0 0 1 0 0) (1 ∷ replicate 20 0) ≡ bytes "claim 0 accepted\ntotal 1 accepted 1 refuted 0 unjudged 0\ncertified yes\n"
 unfolding reportOf decimal numberAt
@@ -32,14 +32,14 @@ pub no-claims : reportOf (answerWith 0 0 0 0 0) [] ≡ bytes "total 0 accepted 0
 unfolding reportOf decimal
 no-claims = refl
 
-pub each-verdict : reportOf (answerWith 0 0 1 3 1) (record-of 1 0 0 0 ++ record-of 2 6 7 8 ++ record-of 3 0 0 0 ++ record-of 4 0 0 0 ++ record-of 5 0 0 0)
+pub each-verdict : reportOf (answerWith 0 0 1 3 1) (record-on accepted ++ record-on (refutedAt 6 7 8) ++ record-on refutedByRate ++ record-on notLeast ++ record-on notJudged)
     ≡ bytes "claim 0 accepted\nclaim 1 refuted at 6 left 7 right 8\nclaim 2 refuted by rate\nclaim 3 refuted not least\nclaim 4 not judged\n"
     ++ bytes "total 5 accepted 1 refuted 3 unjudged 1\ncertified no\n"
-unfolding reportOf decimal numberAt bytesOf
+unfolding reportOf decimal numberAt recordBytes recordOf
 each-verdict = refl
 
-pub other-code : claimLine (record-of 1 0 0 0 ++ record-of 6 0 0 0) 1 ≡ bytes "claim 1 not judged\n"
-unfolding claimLine decimal numberAt bytesOf
+pub other-code : claimLine (record-on accepted ++ recordBytes (record { code = 6; tick = 0; left = 0; right = 0 })) 1 ≡ bytes "claim 1 not judged\n"
+unfolding claimLine decimal numberAt recordBytes recordOf
 other-code = refl
 
 pub longest-line : length (part "claim " (2 * (2 ^ 12 - 1) + (2 ^ 16 - 1) - 1) ++ verdictWords 2 (2 ^ 32 - 1) (2 ^ 64 - 1) (2 ^ 64 - 1)) ≡ maxLine

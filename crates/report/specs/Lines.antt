@@ -27,7 +27,7 @@ unfolding bytes
 part words n = bytes words ++ decimal n
 
 -- the last of a line
-unfoldable pub lastPart : String → ℕ → List ℕ
+unfoldable lastPart : String → ℕ → List ℕ
 unfolding part bytes
 lastPart words n = part words n ++ bytes "\n"
 

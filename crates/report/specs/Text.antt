@@ -17,6 +17,8 @@ use mathlib.Core.List.{List, [], _∷_, _++_}
 use native.Mathlib.Omega.{arith}
 use native.Mathlib.Nat.{div-add-mod', div-lt-iff-lt-mul, div-lt-self, mod-lt, pow-succ'}
 use native.Mathlib.Decide.{decLe}
+use mathlib.Core.WellFounded.{WellFounded·induction}
+use lib.WfN.{Nat·lt-wfRel}
 use lib.ListN.{length, getD, length-append, List·getD-append}
 use lib.Dec.{ltb}
 use borrow.Author.Tests.{lt-ltb, le-ltb}
@@ -78,15 +80,12 @@ pub length-more : (n : ℕ) → 10 ≤ n → length (decimal n) ≡ length (deci
 length-more n high = ap length (decimal-more n high) ∙ length-append (decimal (n / 10)) (digit (n % 10) ∷ [])
 
 module _ (S : ℕ → Type 0) (one : (n : ℕ) → n < 10 → S n) (more : (n : ℕ) → 10 ≤ n → S (n / 10) → S n) where
-  by-digits : (k n : ℕ) → n < k → S n
-  by-digits (suc k) n lt = elim (decLe 10 n) [
-    | yes high ↦ more n high (by-digits k (n / 10) (omega (arith, lt, tenth-less n high)))
-    | no low ↦ one n (omega (arith, low))
-  ]
-
-  -- a fact of every number, from the numbers of one digit and from one digit tenth-less
+  -- a fact of every number, from the numbers of one digit and from the number without its last digit
   each-number : (n : ℕ) → S n
-  each-number n = by-digits (suc n) n (omega arith)
+  each-number n = WellFounded·induction (Nat·lt-wfRel .wf) {C = S} n (λ m below. elim (decLe 10 m) [
+    | yes high ↦ more m high (below (m / 10) (tenth-less m high))
+    | no low ↦ one m (omega (arith, low))
+  ])
 
 value-append : (n : ℕ) (s t : List ℕ) → valueOf n (s ++ t) ≡ valueOf (valueOf n s) t
 unfolding valueOf

@@ -4,11 +4,11 @@
 --     least-first             so it begins,
 --     least-next              goes on,
 --     least-all               and ends with the convolution
-use Prim.Native.Nat.{ℕ, suc, _+_, _-_, _≤_, _<_, min}
+use Prim.Native.Nat.{ℕ, _+_, _-_, _≤_, _<_, min}
 use mathlib.Core.Path.{_≡_}
 use native.Mathlib.Omega.{arith}
 use native.Mathlib.Numerals.{unary-clauses}
-use Rattle.minplus.specs.Search.{best, least}
+use Rattle.minplus.specs.Search.{best, best-next, least}
 use Rattle.minplus.specs.Conv.{conv}
 
 -- by most, m fits wherever the sum that it begins with does
@@ -23,21 +23,13 @@ pub least-first : (f g : ℕ → ℕ) (n : ℕ) → LeastBefore f g n 1 (f 0 + g
 unfolding best
 least-first f g n = record { begun = omega arith; within = omega arith; most = omega arith; same = simp unary-clauses }
 
--- the least of one number more
-least-more : (h : ℕ → ℕ) (u : ℕ) → 1 ≤ u → least h (u + 1 - 1) ≡ min (least h (u - 1)) (h u)
-unfolding best
-least-more h (suc u) le =
-    let here : suc u + 1 - 1 ≡ suc u = omega arith in
-    let before : suc u - 1 ≡ u = omega arith in
-    rw (here, before)
-
 -- a turn that keeps the smaller of m and the sum over the split at u
 pub least-next : {f g : ℕ → ℕ} {n u m m′ : ℕ} → LeastBefore f g n u m → u ≤ n → m′ ≡ min m (f u + g (n - u)) → LeastBefore f g n (u + 1) m′
-least-next b le e = record {
+least-next {u = u} b le e = record {
   begun = omega arith;
   within = omega arith;
   most = omega arith;
-  same = rw (least-more _ _ (b .begun), ← b .same) e;
+  same = let here : u + 1 - 1 ≡ u = omega arith in rw (here, best-next min _ u (b .begun), ← b .same) e;
 }
 
 -- past u = n no split is left

@@ -1,7 +1,7 @@
 -- What the code answers, in the words of the crate minplus.
 --
 --     verdictOf             the verdict; no two of the code's are one (verdict-one-to-one)
---     recordIn              the numbers of a record
+--     numbersOf             the numbers of a record
 --     judgedOf              the answer on a claim: a verdict, or none
 --     judgement             what it has to be: none for a claim that is not well formed (judgement-none), else its verdict (judgement-some)
 --     verdict-far           which is "not judged" beyond the limit,
@@ -33,8 +33,8 @@ verdictOf RefutedByRate = refutedByRate
 verdictOf NotLeast = notLeast
 verdictOf NotJudged = notJudged
 
-abbrev pub recordIn : Record → C.Record
-recordIn r = record { code = r .code; tick = r .tick .0; left = r .left .0; right = r .right .0 }
+abbrev pub numbersOf : Record → C.Record
+numbersOf r = record { code = r .code; tick = r .tick .0; left = r .left .0; right = r .right .0 }
 
 abbrev pub judgedOf : Judged → Option C.Verdict
 judgedOf (Judged.Verdict v) = some (verdictOf v)

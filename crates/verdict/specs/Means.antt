@@ -1,6 +1,7 @@
 -- What an answer of the code says of every tick.
 --
 --     judged-exact        an answer that the contract of verdict_on allows is v exactly when Meaning says so of v
+--     is-verdict          it is the verdict of minplus, on a well-formed claim
 --     judged-accepted     it is "accepted" exactly when the horizon is within the limit and the claim holds at every tick, without end
 --
 -- The hypotheses are met by every answer of verdict_on, whose contract the second one is, on a claim that keeps document 01's limits.

@@ -3,7 +3,7 @@ ghost use mathlib.Core.Path.{_≡_};
 ghost use Rattle.minplus.specs.Verdict.{verdict, recordOf};
 ghost use Rattle.curve.specs.Claimed.{claimOf};
 ghost use Rattle.verdict.specs.Break.{Judgeable};
-ghost use Rattle.verdict.specs.Given.{verdictOf, recordIn, judgedOf, judgement};
+ghost use Rattle.verdict.specs.Given.{verdictOf, numbersOf, judgedOf, judgement};
 use curve::Claim;
 use curve::Curve;
 use curve::Ticks;
@@ -88,7 +88,7 @@ pub fn verdict_on(claim: Claim, f: Curve, g: Curve, h: Curve) -> Judged
 
 // A record in which all but the code is 0.
 fn code_only(code: u8) -> Record
-    ensures { λ r. ⌜ recordIn r ≡ record { code = code; tick = 0; left = 0; right = 0 } ⌝ }
+    ensures { λ r. ⌜ numbersOf r ≡ record { code = code; tick = 0; left = 0; right = 0 } ⌝ }
 {
     Record {
         code,
@@ -99,7 +99,7 @@ fn code_only(code: u8) -> Record
 }
 
 pub fn record_of(v: Verdict) -> Record
-    ensures { λ r. ⌜ recordIn r ≡ recordOf (verdictOf v) ⌝ }
+    ensures { λ r. ⌜ numbersOf r ≡ recordOf (verdictOf v) ⌝ }
 {
     match v {
         Verdict::Accepted => code_only(1),

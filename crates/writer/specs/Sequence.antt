@@ -1,19 +1,19 @@
 -- Calls of a writer one after the other: any calls whatever, taken or refused, and those that write a book.
 --
---     Desk             where the writing of a book stands: the writer, the lent bytes, and what the calls that were taken have said (entered)
---     step, afterCalls     one call and a list of them, by Writing's `called` and `written`; opened, reached: from a writer that has not begun
+--     Desk             where the writing of a book stands: the writer, the lent bytes, and what the calls that were taken have said (entered, enteredOn)
+--     step, afterCalls     one call (step-refused, step-taken) and a list of them, by Writing's `called` and `written`; opened, reached: from a writer that has not begun
 --     textIn           the bytes before the writer's place; Says: they are a sound book that says this
 --     AllTaken         no call of the list is refused
 --     callsFor         the calls that write a book: begin, each curve, each claim, close
 --     Stage            what is written and what is said go together: nothing yet, a book without its end, a book
---     Written          what holds after any calls whatever (any-calls). So:
+--     Written          what holds after any calls whatever (any-calls), of a writer that stands after a text (standing). So:
 --         closed-sound     what a closed writer has written is a sound book, and says what the calls said
 --         open-ends        what an open one has written lacks only the end; begins-sound: and is always the beginning of a sound book
---         calls-bytes      it is bytes; closed-stays: and once closed, it stays
+--         closed-stays     once closed, it stays
 --     calls-write      a book within the limits is written by its calls, if it has room: all are taken, and they leave its bytes and no others
 --     written-and-read, read-and-written     and so read again; and a book that was read is written as it was
 --     closed-same      any calls that leave a closed book leave what its own calls do
---     w8-calls         the same of document 01's book; w8-stands, w8-short: computed, with room and with one byte too few
+--     w8-stands, w8-short     document 01's book, computed, with room and with one byte too few
 use Prim.Native.Nat.{ℕ, _+_, _≤_, _<_}
 use mathlib.Core.Path.{_≡_, refl, sym, ap, subst, subst₂, _∙_}
 use mathlib.Core.Bool.{Bool, true, false, not, true≢false}
@@ -23,19 +23,19 @@ use mathlib.Mathlib.Data.List.Basic.{forall-cons}
 use native.Mathlib.Omega.{arith}
 use native.Mathlib.Nat.{zero-add}
 use lib.ListN.{length, take, drop, replicate, length-append}
-use lib.Seq.{take-at, take-all}
+use lib.Seq.{take-at}
 use lib.Dec.{eqb}
 use borrow.Author.Tests.{leb-false, eqb-true, not-false, lt-leb}
 use Rattle.minplus.specs.Search.{both-true}
-use Rattle.minplus.specs.Curve.{Curve, WellFormed}
+use Rattle.minplus.specs.Curve.{WellFormed}
 use Rattle.minplus.specs.Claim.{kindBy}
+use Rattle.numbers.specs.Lists.{length-zero}
 use Rattle.numbers.specs.Put.{put, bytesOf, put-nothing, length-put, drop-put, put-put}
-use Rattle.numbers.specs.Back.{Bytes, bytes-take}
+use Rattle.numbers.specs.Back.{Bytes}
 use Rattle.content.specs.declared.Refusal.{Refusal}
 use Rattle.content.specs.declared.Refusal.the-variants.{OutOfOrder, WrongVersion}
 use Rattle.content.specs.declared.Checked.{Checked}
 use Rattle.content.specs.declared.Checked.the-variants.{Sound, Refused}
-use Rattle.content.specs.Layout.{Statement}
 use Rattle.content.specs.Refusals.{on-sound}
 use Rattle.content.specs.Sound.{listed-well, WellStated, well-stated}
 use Rattle.field.specs.declared.Tag.the-variants as tag
@@ -45,11 +45,11 @@ use Rattle.field.specs.Steps.{maxCurves, maxClaims, isVersion, inOrder, full, a
 use Rattle.field.specs.Back.{begun-on}
 use Rattle.book.specs.Reading.{Contents, sound, readBook}
 use Rattle.book.specs.Ground.{w8}
-use Rattle.book.specs.Listing.{Listing, curveFields, claimFields, openBytes, bookBytes, begun, withCurve, withClaim, WellListed, listingIn, open-begun, open-curve, open-claim, bytes-book, length-book, well-begun, well-curve, well-claim}
-use Rattle.book.specs.RoundTrip.{written-read, read-written, read-well, w8-listing, w8-written, w8-well}
+use Rattle.book.specs.Listing.{Listing, listed, curveFields, claimFields, openBytes, bookBytes, begun, withCurve, withClaim, WellListed, listingIn, open-begun, open-curve, open-claim, length-book, well-begun, well-curve, well-claim}
+use Rattle.book.specs.RoundTrip.{written-read, read-written, read-well, w8-listing, w8-well}
 use Rattle.writer.specs.declared.Writer.{Writer}
 use Rattle.writer.specs.declared.Called.{Called}
-use Rattle.writer.specs.Writing.{Call, begin, addCurve, addClaim, close, tagOf, contentOf, fieldOf, fresh, orderFault, argumentFault, callFault, versionOf, closes, movedBy, called, written, Passes, passes, call-refused, call-taken}
+use Rattle.writer.specs.Writing.{Call, begin, addCurve, addClaim, close, callTag, callContent, callField, fresh, orderFault, argumentFault, callFault, versionOf, closes, movedBy, called, written, Passes, passes, call-refused, call-taken}
 
 pub record Desk : Type 0 where
   pub writer : Writer
@@ -57,14 +57,14 @@ pub record Desk : Type 0 where
   pub listing : Listing
 
 -- what is said with one call more. A version is taken only where nothing is said yet
-abbrev pub entered : Listing → Call → Listing
-entered b (begin v) = record { version = v; curves = b .curves; claims = b .claims }
+abbrev entered : Listing → Call → Listing
+entered b (begin v) = listed v (b .curves) (b .claims)
 entered b (addCurve f) = withCurve b f
 entered b (addClaim c) = withClaim b c
 entered b close = b
 
 -- a call that is refused says nothing
-abbrev pub enteredOn : Checked → Listing → Call → Listing
+abbrev enteredOn : Checked → Listing → Call → Listing
 enteredOn (Refused x) b call = b
 enteredOn Sound b call = entered b call
 
@@ -105,14 +105,14 @@ callsFor b = begin (b .version) ∷ (map addCurve (b .curves) ++ (map addClaim (
 -- ---- one call
 
 module _ (d : Desk) (call : Call) where
-  pub step-refused : (x : Refusal) → callFault (d .writer) (length (d .buffer)) call ≡ Refused x → step d call ≡ d
+  step-refused : (x : Refusal) → callFault (d .writer) (length (d .buffer)) call ≡ Refused x → step d call ≡ d
   unfolding step
   step-refused x e =
       let r = call-refused call (d .writer) (d .buffer) x e in
       λ i. record { writer = r .0 i .writer; buffer = r .1 i; listing = enteredOn (r .0 i .checked) (d .listing) call }
 
-  pub step-taken : callFault (d .writer) (length (d .buffer)) call ≡ Sound
-      → step d call ≡ record { writer = movedBy call (d .writer); buffer = put (d .buffer) (d .writer .state .place) (fieldOf call); listing = entered (d .listing) call }
+  step-taken : callFault (d .writer) (length (d .buffer)) call ≡ Sound
+      → step d call ≡ record { writer = movedBy call (d .writer); buffer = put (d .buffer) (d .writer .state .place) (callField call); listing = entered (d .listing) call }
   unfolding step
   step-taken e =
       let r = call-taken call (d .writer) (d .buffer) e in
@@ -148,7 +148,7 @@ unfolding put
 take-laid s text = take-at text (drop (0 + length text) s) (length text) refl
 
 -- what is said is counted
-counts-on : (b : Listing) (call : Call) (p q : ℕ) → after (tagOf call) (counted b p) (versionOf call) q ≡ counted (entered b call) q
+counts-on : (b : Listing) (call : Call) (p q : ℕ) → after (callTag call) (counted b p) (versionOf call) q ≡ counted (entered b call) q
 unfolding after
 counts-on b (begin v) p q = refl
 counts-on b (addCurve f) p q = λ i. record { version = b .version; curves = sym (length-append (b .curves) (f ∷ [])) i; claims = length (b .claims); place = q }
@@ -157,15 +157,15 @@ counts-on b close p q = refl
 
 module _ (s : List ℕ) (closed : Bool) (b : Listing) (text : List ℕ) (call : Call) (p : Passes (standing closed b text) (length s) call) where
   abbrev new : List ℕ
-  new = fieldOf call
+  new = callField call
 
   laid-fault : callFault (standing closed b text) (length (put s 0 text)) call ≡ Sound
   laid-fault = rw (length-laid s text (omega (arith, p .fits))) (passes (standing closed b text) (length s) call .1 p)
 
-  laid-on : step (laid s closed b text) call ≡ laid s (closes call) (entered b call) (text ++ fieldOf call)
+  laid-on : step (laid s closed b text) call ≡ laid s (closes call) (entered b call) (text ++ callField call)
   laid-on =
       let k : ℕ = length text in
-      let state-is : after (tagOf call) (counted b k) (versionOf call) (k + length new) ≡ counted (entered b call) (length (text ++ new)) =
+      let state-is : after (callTag call) (counted b k) (versionOf call) (k + length new) ≡ counted (entered b call) (length (text ++ new)) =
       counts-on b call k (k + length new) ∙ ap (counted (entered b call)) (sym (length-append text new)) in
       let buffer-is : put (put s 0 text) k new ≡ put s 0 (text ++ new) =
       ap (λ (at : ℕ). put (put s 0 text) at new) (sym (zero-add k)) ∙ put-put s 0 text new (omega (arith, p .fits)) in
@@ -194,8 +194,8 @@ never e = absurd (true≢false (sym e))
 
 -- a call that is taken leads from one stage to the next
 stage-on : {closed : Bool} {b : Listing} {text : List ℕ} → Stage closed b text → (room : ℕ) (call : Call) → Passes (standing closed b text) room call
-    → Stage (closes call) (entered b call) (text ++ fieldOf call)
-unfolding inOrder full argumentFault contentOf bookBytes
+    → Stage (closes call) (entered b call) (text ++ callField call)
+unfolding inOrder full argumentFault callContent bookBytes
 stage-on untouched room (begin v) p =
     subst (Stage false (begun v)) (open-begun v) (unfinished (well-begun v (not-false _ (on-sound (not (isVersion v)) WrongVersion Sound (p .right) .0))))
 stage-on untouched room (addCurve f) p = never (p .ordered)
@@ -204,7 +204,7 @@ stage-on untouched room close p = never (p .ordered)
 stage-on (unfinished {b} w) room (begin v) p = never (sym (begun-on (b .version) (w .version-known)) ∙ p .ordered)
 stage-on (unfinished {b} w) room (addCurve f) p =
     let order = both-true (not (eqb (b .version) 0)) (eqb (length (b .claims)) 0) .0 (p .ordered) in
-    let none-yet : b .claims ≡ [] = sym (take-all 0 (b .claims) (omega (arith, eqb-true (length (b .claims)) 0 (order .1)))) in
+    let none-yet : b .claims ≡ [] = length-zero (b .claims) (eqb-true (length (b .claims)) 0 (order .1)) in
     subst (Stage false (withCurve b f)) (open-curve b f none-yet) (unfinished (well-curve w f (listed-well f .0 (p .right)) (leb-false _ _ (p .few)) none-yet))
 stage-on (unfinished {b} w) room (addClaim c) p =
     subst (Stage false (withClaim b c)) (open-claim b c) (unfinished (well-claim w c (well-stated (length (b .curves)) c .0 (p .right)) (leb-false _ _ (p .few))))
@@ -222,7 +222,7 @@ laid-step {s} (laid-out {closed} {b} {text} stage room) call = go (callFault (st
     go (Refused x) e = subst (Laid s) (sym (step-refused (laid s closed b text) call x e)) (laid-out stage room)
     go Sound e =
         let p = passes (standing closed b text) (length s) call .0 (rw (length-laid s text room) at e) in
-        subst (Laid s) (sym (laid-on s closed b text call p)) (laid-out (stage-on stage (length s) call p) (omega (arith, p .fits, length-append text (fieldOf call))))
+        subst (Laid s) (sym (laid-on s closed b text call p)) (laid-out (stage-on stage (length s) call p) (omega (arith, p .fits, length-append text (callField call))))
 
 laid-calls : {s : List ℕ} {d : Desk} → Laid s d → (calls : List Call) → Laid s (afterCalls d calls)
 unfolding afterCalls
@@ -293,12 +293,6 @@ module _ (s : List ℕ) (calls : List Call) where
       let r = written-read (p .book) (p .well) in
       (p .rest, r .0, ap readBook (p .whole) ∙ r .1)
 
-  pub calls-bytes : Bytes (textIn (reached s calls))
-  calls-bytes =
-      let p = begins (so .stage) in
-      let n : ℕ = length (textIn d) in
-      subst Bytes (ap (take n) (sym (p .whole)) ∙ take-at (textIn d) (p .rest) n refl) (bytes-take n (bookBytes (p .book)) (bytes-book (p .book)))
-
 -- ---- the calls that write a book
 
 module _ (s : List ℕ) (end : Desk) where
@@ -309,7 +303,7 @@ module _ (s : List ℕ) (end : Desk) where
 
   -- one call, and then the others
   goes-on : (closed : Bool) (b : Listing) (text : List ℕ) (call : Call) → Passes (standing closed b text) (length s) call
-      → (calls : List Call) → Goes (laid s (closes call) (entered b call) (text ++ fieldOf call)) calls → Goes (laid s closed b text) (call ∷ calls)
+      → (calls : List Call) → Goes (laid s (closes call) (entered b call) (text ++ callField call)) calls → Goes (laid s closed b text) (call ∷ calls)
   unfolding AllTaken afterCalls
   goes-on closed b text call p calls g =
       let here : Desk = laid s closed b text in
@@ -320,10 +314,10 @@ module _ (s : List ℕ) (end : Desk) where
 
   -- a call for each of a list, and then the others
   module _ {A : Type 0} (call : A → Call) (limit : ℕ) (P : A → Type 0) (said : List A → Listing)
-      (one : (l : List A) (x : A) (text : List ℕ) → length l < limit → P x → length text + length (fieldOf (call x)) ≤ length s
-      → (calls : List Call) → Goes (laid s false (said (l ++ (x ∷ []))) (text ++ fieldOf (call x))) calls → Goes (laid s false (said l) text) (call x ∷ calls)) where
+      (one : (l : List A) (x : A) (text : List ℕ) → length l < limit → P x → length text + length (callField (call x)) ≤ length s
+      → (calls : List Call) → Goes (laid s false (said (l ++ (x ∷ []))) (text ++ callField (call x))) calls → Goes (laid s false (said l) text) (call x ∷ calls)) where
     abbrev fields : List A → List ℕ
-    fields l = flatMap (λ x. fieldOf (call x)) l
+    fields l = flatMap (λ x. callField (call x)) l
 
     every-call : (l m : List A) (text : List ℕ) (calls : List Call) → length l + length m ≤ limit → Forall P m → length text + length (fields m) ≤ length s
         → Goes (laid s false (said (l ++ m)) (text ++ fields m)) calls → Goes (laid s false (said l) text) (map call m ++ calls)
@@ -331,14 +325,11 @@ module _ (s : List ℕ) (end : Desk) where
     every-call l [] text calls few each fits g = subst₂ (λ (k : List A) (t : List ℕ). Goes (laid s false (said k) t) calls) (append-nil l) (append-nil text) g
     every-call l (x ∷ m) text calls few each fits g =
         let both = forall-cons P x m .0 each in
-        let new : List ℕ = fieldOf (call x) in
+        let new : List ℕ = callField (call x) in
         let more : length (new ++ fields m) ≡ length new + length (fields m) = length-append new (fields m) in
         one l x text (omega (arith, few)) (both .0) (omega (arith, fits, more)) (map call m ++ calls)
         (every-call (l ++ (x ∷ [])) m (text ++ new) calls (omega (arith, few, length-append l (x ∷ []))) (both .1) (omega (arith, fits, more, length-append text new))
         (subst₂ (λ (k : List A) (t : List ℕ). Goes (laid s false (said k) t) calls) (sym (append-assoc l (x ∷ []) m)) (sym (append-assoc text new (fields m))) g))
-
-abbrev listed : ℕ → List Curve → List Statement → Listing
-listed v curves claims = record { version = v; curves = curves; claims = claims }
 
 module _ (s : List ℕ) (b : Listing) (w : WellListed b) (room : length (bookBytes b) ≤ length s) where
   abbrev end : Desk
@@ -348,7 +339,7 @@ module _ (s : List ℕ) (b : Listing) (w : WellListed b) (room : length (bookByt
   v = b .version
 
   abbrev t₀ : List ℕ
-  t₀ = fieldOf (begin v)
+  t₀ = callField (begin v)
 
   abbrev t₁ : List ℕ
   t₁ = t₀ ++ curveFields (b .curves)
@@ -356,18 +347,18 @@ module _ (s : List ℕ) (b : Listing) (w : WellListed b) (room : length (bookByt
   abbrev t₂ : List ℕ
   t₂ = t₁ ++ claimFields (b .claims)
 
-  all-is : t₂ ++ fieldOf close ≡ bookBytes b
-  unfolding bookBytes contentOf
-  all-is = ap (λ (t : List ℕ). t ++ fieldOf close) (append-assoc t₀ (curveFields (b .curves)) (claimFields (b .claims)))
+  all-is : t₂ ++ callField close ≡ bookBytes b
+  unfolding bookBytes callContent
+  all-is = ap (λ (t : List ℕ). t ++ callField close) (append-assoc t₀ (curveFields (b .curves)) (claimFields (b .claims)))
 
   goes-all : Goes s end (laid s false (begun 0) []) (callsFor b)
-  unfolding callsFor inOrder full argumentFault contentOf AllTaken afterCalls
+  unfolding callsFor inOrder full argumentFault callContent AllTaken afterCalls
   goes-all =
       let begun-so = begun-on v (w .version-known) in
       let n₁ = length-append t₀ (curveFields (b .curves)) in
       let n₂ = length-append t₁ (claimFields (b .claims)) in
-      let n₃ = length-append t₂ (fieldOf close) in
-      let fits : length t₂ + length (fieldOf close) ≤ length s = omega (arith, room, n₃, ap length all-is) in
+      let n₃ = length-append t₂ (callField close) in
+      let fits : length t₂ + length (callField close) ≤ length s = omega (arith, room, n₃, ap length all-is) in
       let last : List Call = close ∷ [] in
       let claims : List Call = map addClaim (b .claims) ++ last in
       let at-end : Goes s end (laid s false b t₂) last =
@@ -409,12 +400,6 @@ closed-same s calls = go (laid-reached s calls)
     go (laid-out (finished {b} w) room) e = sym (calls-write s b w room .1)
 
 -- ---- document 01's book in full
-
-pub w8-calls : (s : List ℕ) → 59 ≤ length s → AllTaken (opened s) (callsFor w8-listing) × (reached s (callsFor w8-listing) .buffer ≡ put s 0 w8)
-unfolding w8
-w8-calls s room =
-    let r = calls-write s w8-listing w8-well (omega (arith, room, ap length w8-written)) in
-    (r .0, ap (λ (d : Desk). d .buffer) (r .1) ∙ ap (put s 0) w8-written)
 
 pub w8-stands : reached (replicate 60 0) (callsFor w8-listing)
     ≡ record { writer = record { state = record { version = 1; curves = 2; claims = 1; place = 59 }; closed = true }; buffer = w8 ++ (0 ∷ []); listing = w8-listing }

@@ -2,9 +2,10 @@
 -- 10, 11, 12 for a claim, and last 14, given exactly when too few bytes remain for this field; bytes and state then stay. A writer's refusal is a number without a place. A call that
 -- is taken writes the field's bytes after those before and no others. An unknown kind is 10. Closed books take nothing more: 3."
 --
---     Call             the four calls with their arguments; tagOf, contentOf, fieldOf: the field that one writes
+--     Call             the four calls with their arguments; callTag, callContent, callField: the field that one writes
 --     fresh            a writer before it has begun
---     callFault        why a call is refused, in that order
+--     callFault        why a call is refused, in that order: the first of orderFault, argumentFault and roomFault
+--     movedBy          where a writer stands after a call that is taken (versionOf, closes)
 --     called           the answer and the writer after it
 --     written          every byte of the buffer after it
 --     Passes           a call is taken exactly when (passes)
@@ -14,7 +15,6 @@ use mathlib.Core.Path.{_≡_, refl, ap}
 use mathlib.Core.Bool.{Bool, true, false, not}
 use mathlib.Core.List.{List, []}
 use mathlib.Core.Logic.{_↔_}
-use native.Mathlib.Omega.{arith}
 use lib.ListN.{length}
 use lib.Dec.{ltb}
 use borrow.Author.Tests.{ltb-false, le-ltb, not-false}
@@ -30,6 +30,7 @@ use Rattle.field.specs.declared.Tag.{Tag}
 use Rattle.field.specs.declared.Tag.the-variants as tag
 use Rattle.field.specs.Fields.{fieldBytes}
 use Rattle.field.specs.Steps.{isVersion, inOrder, full, after}
+use Rattle.book.specs.Reading.{start}
 use Rattle.writer.specs.declared.Writer.{Writer}
 use Rattle.writer.specs.declared.Called.{Called}
 
@@ -40,24 +41,24 @@ pub data Call : Type 0 where
   addClaim : Statement → Call
   close : Call
 
-abbrev pub tagOf : Call → Tag
-tagOf (begin v) = tag.Version
-tagOf (addCurve f) = tag.Curve
-tagOf (addClaim c) = tag.Claim
-tagOf close = tag.End
+abbrev pub callTag : Call → Tag
+callTag (begin v) = tag.Version
+callTag (addCurve f) = tag.Curve
+callTag (addClaim c) = tag.Claim
+callTag close = tag.End
 
-unfoldable pub contentOf : Call → List ℕ
+unfoldable pub callContent : Call → List ℕ
 unfolding curveBytes claimBytes
-contentOf (begin v) = bytesOf 1 v
-contentOf (addCurve f) = curveBytes f
-contentOf (addClaim c) = claimBytes c
-contentOf close = []
+callContent (begin v) = bytesOf 1 v
+callContent (addCurve f) = curveBytes f
+callContent (addClaim c) = claimBytes c
+callContent close = []
 
-abbrev pub fieldOf : Call → List ℕ
-fieldOf call = fieldBytes (tagOf call) (contentOf call)
+abbrev pub callField : Call → List ℕ
+callField call = fieldBytes (callTag call) (callContent call)
 
 abbrev pub fresh : Writer
-fresh = record { state = record { version = 0; curves = 0; claims = 0; place = 0 }; closed = false }
+fresh = record { state = start; closed = false }
 
 -- ---- why a call is refused
 
@@ -88,11 +89,11 @@ unfoldable pub roomFault : ℕ → ℕ → ℕ → Checked
 roomFault room place size = on (ltb room (place + size)) NoRoom Sound
 
 unfoldable pub callFault : Writer → ℕ → Call → Checked
-unfolding orderFault argumentFault roomFault contentOf fieldBytes
+unfolding orderFault argumentFault roomFault callContent fieldBytes
 callFault w room call =
-    first (orderFault w (tagOf call))
+    first (orderFault w (callTag call))
     (first (argumentFault (w .state .curves) call)
-    (roomFault room (w .state .place) (length (fieldOf call))))
+    (roomFault room (w .state .place) (length (callField call))))
 
 -- ---- what a call answers and writes
 
@@ -110,17 +111,17 @@ closes close = true
 
 -- where a writer stands after a call that is taken: where a reader stands after its field
 abbrev pub movedBy : Call → Writer → Writer
-movedBy call w = record { state = after (tagOf call) (w .state) (versionOf call) (w .state .place + length (fieldOf call)); closed = closes call }
+movedBy call w = record { state = after (callTag call) (w .state) (versionOf call) (w .state .place + length (callField call)); closed = closes call }
 
 -- "bytes and state then stay"
-abbrev pub calledOn : Checked → Call → Writer → Called
+abbrev calledOn : Checked → Call → Writer → Called
 calledOn (Refused x) call w = record { checked = Refused x; writer = w }
 calledOn Sound call w = record { checked = Sound; writer = movedBy call w }
 
 -- "A call that is taken writes the field's bytes after those before and no others."
-abbrev pub writtenOn : Checked → Call → Writer → List ℕ → List ℕ
+abbrev writtenOn : Checked → Call → Writer → List ℕ → List ℕ
 writtenOn (Refused x) call w s = s
-writtenOn Sound call w s = put s (w .state .place) (fieldOf call)
+writtenOn Sound call w s = put s (w .state .place) (callField call)
 
 unfoldable pub called : Call → Writer → List ℕ → Called
 unfolding callFault after
@@ -134,27 +135,27 @@ written call w s = writtenOn (callFault w (length s) call) call w s
 
 pub record Passes (w : Writer) (room : ℕ) (call : Call) : Type 0 where
   pub still-open : w .closed ≡ false
-  pub ordered : inOrder (tagOf call) (w .state .version) (w .state .claims) ≡ true
-  pub few : full (tagOf call) (w .state .curves) (w .state .claims) ≡ false
+  pub ordered : inOrder (callTag call) (w .state .version) (w .state .claims) ≡ true
+  pub few : full (callTag call) (w .state .curves) (w .state .claims) ≡ false
   pub right : argumentFault (w .state .curves) call ≡ Sound
-  pub fits : w .state .place + length (fieldOf call) ≤ room
+  pub fits : w .state .place + length (callField call) ≤ room
 
 first-sound : (x y : Checked) → first x y ≡ Sound → (x ≡ Sound) × (y ≡ Sound)
-first-sound (Refused x) y e = let z : _≡_ {A = ℕ} 0 1 = cc in absurd (omega (arith, z))
+first-sound (Refused x) y e = (cc, cc)
 first-sound Sound y e = (refl, e)
 
 pub passes : (w : Writer) (room : ℕ) (call : Call) → (callFault w room call ≡ Sound) ↔ Passes w room call
 unfolding callFault orderFault roomFault
 passes w room call = (
   λ e.
-      let order = first-sound (orderFault w (tagOf call)) _ e in
+      let order = first-sound (orderFault w (callTag call)) _ e in
       let rest = first-sound (argumentFault (w .state .curves) call) _ (order .1) in
       let t₁ = on-sound (w .closed) OutOfOrder _ (order .0) in
-      let t₂ = on-sound (not (inOrder (tagOf call) (w .state .version) (w .state .claims))) OutOfOrder _ (t₁ .1) in
-      let t₃ = on-sound (full (tagOf call) (w .state .curves) (w .state .claims)) TooMany _ (t₂ .1) in
-      let t₄ = on-sound (ltb room (w .state .place + length (fieldOf call))) NoRoom _ (rest .1) in
+      let t₂ = on-sound (not (inOrder (callTag call) (w .state .version) (w .state .claims))) OutOfOrder _ (t₁ .1) in
+      let t₃ = on-sound (full (callTag call) (w .state .curves) (w .state .claims)) TooMany _ (t₂ .1) in
+      let t₄ = on-sound (ltb room (w .state .place + length (callField call))) NoRoom _ (rest .1) in
       record { still-open = t₁ .0; ordered = not-false _ (t₂ .0); few = t₃ .0; right = rest .0; fits = ltb-false _ _ (t₄ .0) },
-  λ p. rw (p .still-open, p .ordered, p .few, p .right, le-ltb room (w .state .place + length (fieldOf call)) (p .fits)),
+  λ p. rw (p .still-open, p .ordered, p .few, p .right, le-ltb room (w .state .place + length (callField call)) (p .fits)),
 )
 
 module _ (call : Call) (w : Writer) (s : List ℕ) where
@@ -163,6 +164,6 @@ module _ (call : Call) (w : Writer) (s : List ℕ) where
   call-refused x e = (ap (λ (y : Checked). calledOn y call w) e, ap (λ (y : Checked). writtenOn y call w s) e)
 
   pub call-taken : callFault w (length s) call ≡ Sound
-      → (called call w s ≡ record { checked = Sound; writer = movedBy call w }) × (written call w s ≡ put s (w .state .place) (fieldOf call))
+      → (called call w s ≡ record { checked = Sound; writer = movedBy call w }) × (written call w s ≡ put s (w .state .place) (callField call))
   unfolding called written
   call-taken e = (ap (λ (y : Checked). calledOn y call w) e, ap (λ (y : Checked). writtenOn y call w s) e)

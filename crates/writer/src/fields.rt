@@ -6,7 +6,7 @@ ghost use lib.ListN.{length};
 ghost use Rattle.numbers.specs.Put.{bytesOf, put as putAt};
 ghost use Rattle.content.specs.Layout.{valuesBytes};
 ghost use Rattle.field.specs.Fields.{tagNumber};
-ghost use Rattle.writer.specs.Writing.{begin, addCurve, addClaim, close, fieldOf, first, orderFault, roomFault};
+ghost use Rattle.writer.specs.Writing.{begin, addCurve, addClaim, close, callField, first, orderFault, roomFault};
 use crate::Writer;
 use content::Checked;
 use content::Refusal;
@@ -82,8 +82,8 @@ fn put_head(out: &mut [u8], place: usize, tag: Tag, content: usize)
 }
 
 pub(crate) fn put_version(out: &mut [u8], place: usize, version: u8)
-    requires { ⌜ place + length (fieldOf (begin version)) ≤ length (now out) ⌝ }
-    ensures { λ _. ⌜ now (out .exit) ≡ putAt (now (out .entry)) place (fieldOf (begin version)) ⌝ }
+    requires { ⌜ place + length (callField (begin version)) ≤ length (now out) ⌝ }
+    ensures { λ _. ⌜ now (out .exit) ≡ putAt (now (out .entry)) place (callField (begin version)) ⌝ }
 {
     put_head(out, place, Tag::Version, 1);
     put(out, place + 3, 1, version as u64);
@@ -108,8 +108,8 @@ pub(crate) fn put_curve(
     increment: u64,
     values: &[u32],
 )
-    requires { ⌜ place + length (fieldOf (addCurve (record { rank = rank; period = period; increment = increment; listed = now values }))) ≤ length (now out) ⌝ }
-    ensures { λ _. ⌜ now (out .exit) ≡ putAt (now (out .entry)) place (fieldOf (addCurve (record { rank = rank; period = period; increment = increment; listed = now (values .entry) }))) ⌝ }
+    requires { ⌜ place + length (callField (addCurve (record { rank = rank; period = period; increment = increment; listed = now values }))) ≤ length (now out) ⌝ }
+    ensures { λ _. ⌜ now (out .exit) ≡ putAt (now (out .entry)) place (callField (addCurve (record { rank = rank; period = period; increment = increment; listed = now (values .entry) }))) ⌝ }
 {
     put_head(out, place, Tag::Curve, 8 + 4 * values.len());
     put(out, place + 3, 2, rank);
@@ -119,8 +119,8 @@ pub(crate) fn put_curve(
 }
 
 pub(crate) fn put_claim(out: &mut [u8], place: usize, kind: u64, left: u64, right: u64, third: u64)
-    requires { ⌜ place + length (fieldOf (addClaim (record { kind = kind; left = left; right = right; third = third }))) ≤ length (now out) ⌝ }
-    ensures { λ _. ⌜ now (out .exit) ≡ putAt (now (out .entry)) place (fieldOf (addClaim (record { kind = kind; left = left; right = right; third = third }))) ⌝ }
+    requires { ⌜ place + length (callField (addClaim (record { kind = kind; left = left; right = right; third = third }))) ≤ length (now out) ⌝ }
+    ensures { λ _. ⌜ now (out .exit) ≡ putAt (now (out .entry)) place (callField (addClaim (record { kind = kind; left = left; right = right; third = third }))) ⌝ }
 {
     let width = third_width(kind);
     put_head(out, place, Tag::Claim, 3 + width);
@@ -131,8 +131,8 @@ pub(crate) fn put_claim(out: &mut [u8], place: usize, kind: u64, left: u64, righ
 }
 
 pub(crate) fn put_end(out: &mut [u8], place: usize)
-    requires { ⌜ place + length (fieldOf close) ≤ length (now out) ⌝ }
-    ensures { λ _. ⌜ now (out .exit) ≡ putAt (now (out .entry)) place (fieldOf close) ⌝ }
+    requires { ⌜ place + length (callField close) ≤ length (now out) ⌝ }
+    ensures { λ _. ⌜ now (out .exit) ≡ putAt (now (out .entry)) place (callField close) ⌝ }
 {
     put_head(out, place, Tag::End, 0);
 }

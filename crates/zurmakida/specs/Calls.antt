@@ -1,6 +1,6 @@
 -- The four calls as C makes them, one after the other: the state is a number, 0 before the first call, and each call is passed the state that the call before it answered.
 --
---     Held, calledFrom, heldAfter     a state and the lent bytes, after one call and after a list of them
+--     Held, calledFrom, heldAfter     a state and the lent bytes, after one call and after a list of them; heldFrom: from state 0
 --     kept-after       whatever the calls, a writer's parts have room in the number
 --     state-calls      so the numbers go as the writer goes: what any-calls and the theorems after it say of calls one after the other holds of C's
 --     closed-book      for one spelled out: once the state says closed, the bytes written are a sound book, and say what the taken calls said
@@ -41,6 +41,10 @@ unfolding calledFrom
 heldAfter h [] = h
 heldAfter h (call ∷ calls) = heldAfter (calledFrom h call) calls
 
+-- from state 0
+abbrev pub heldFrom : List ℕ → List Call → Held
+heldFrom s calls = heldAfter (record { state = 0; buffer = s }) calls
+
 -- ---- laws
 
 kept-stage : {closed : Bool} {b : Listing} {text : List ℕ} → Stage closed b text → (b .version < 2 ^ 7) × (length (b .curves) ≤ maxCurves) × (length (b .claims) ≤ maxClaims)
@@ -48,7 +52,7 @@ kept-stage untouched = (omega arith, omega arith, omega arith)
 kept-stage (unfinished {b} w) = (version-fits (b .version) (w .version-known) .1, w .curves-fit, w .claims-fit)
 kept-stage (finished {b} w) = (version-fits (b .version) (w .version-known) .1, w .curves-fit, w .claims-fit)
 
-pub kept-after : {s : List ℕ} {d : Desk} → Written s d → Kept (d .writer)
+kept-after : {s : List ℕ} {d : Desk} → Written s d → Kept (d .writer)
 kept-after {s} {d} so =
     let few = kept-stage (so .stage) in
     let is = so .writer-is in
@@ -86,18 +90,18 @@ module _ (s : List ℕ) where
       (ap₂ (written call) e e′) calls
 
   pub state-calls : (calls : List Call)
-      → (writerOf (heldAfter (record { state = 0; buffer = s }) calls .state) ≡ reached s calls .writer) × (heldAfter (record { state = 0; buffer = s }) calls .buffer ≡ reached s calls .buffer)
+      → (writerOf (heldFrom s calls .state) ≡ reached s calls .writer) × (heldFrom s calls .buffer ≡ reached s calls .buffer)
   state-calls calls = follows (opened s) (any-calls s) (record { state = 0; buffer = s }) (fresh-back .1) refl calls
 
   -- "after close is a sound book": the state says how many bytes it has
-  pub closed-book : (calls : List Call) → writerOf (heldAfter (record { state = 0; buffer = s }) calls .state) .closed ≡ true
-      → Says (take (heldAfter (record { state = 0; buffer = s }) calls .state % 2 ^ 16) (heldAfter (record { state = 0; buffer = s }) calls .buffer)) (reached s calls .listing)
+  pub closed-book : (calls : List Call) → writerOf (heldFrom s calls .state) .closed ≡ true
+      → Says (take (heldFrom s calls .state % 2 ^ 16) (heldFrom s calls .buffer)) (reached s calls .listing)
   unfolding writerOf
   closed-book calls closed =
       let told = state-calls calls in
       let text = ap₂ take (ap (λ (w : Writer). w .state .place) (told .0)) (told .1) in
       subst (λ (t : List ℕ). Says t (reached s calls .listing)) (sym text) (closed-sound s calls (sym (ap (λ (w : Writer). w .closed) (told .0)) ∙ closed))
 
-pub w8-held : heldAfter (record { state = 0; buffer = replicate 60 0 }) (callsFor w8-listing) .state ≡ 59 + 2 ^ 16 * 1 + 2 ^ 32 * 2 + 2 ^ 40 * 1 + 2 ^ 47
+pub w8-held : heldFrom (replicate 60 0) (callsFor w8-listing) .state ≡ 59 + 2 ^ 16 * 1 + 2 ^ 32 * 2 + 2 ^ 40 * 1 + 2 ^ 47
 unfolding heldAfter callsFor w8-listing kindBy bytesOf
 w8-held = refl

@@ -2,7 +2,7 @@
 --
 --     stateOf        bytes written + 2^16 * claims + 2^32 * curves + 2^40 * version + 2^47 if it is closed
 --     writerOf       the writer of any number: one with a bit above those, or with more bytes than a book can have, takes nothing more (takesNothing)
---     answered       a call's answer as C gets it: "A writer's refusal is a number without a place", and the state stays
+--     answered       a call's answer as C gets it: "A writer's refusal is a number without a place", and the state stays (answeredOn)
 --     Kept           a writer whose parts have room in the number; state-back: it is the writer of its number
 --     fresh-back     0 is the state before the first call
 use Prim.Native.Nat.{ℕ, _+_, _*_, _/_, _%_, _^_, _≤_, _<_}
@@ -21,11 +21,11 @@ use Rattle.writer.specs.declared.Called.{Called}
 use Rattle.writer.specs.Writing.{fresh}
 use Rattle.zurmakida.specs.declared.BookCall.{BookCall}
 
-abbrev pub closedBit : Bool → ℕ
+abbrev closedBit : Bool → ℕ
 closedBit true = 2 ^ 47
 closedBit false = 0
 
-abbrev pub openPart : State → ℕ
+abbrev openPart : State → ℕ
 openPart st = st .place % 2 ^ 16 + 2 ^ 16 * (st .claims % 2 ^ 16) + 2 ^ 32 * (st .curves % 2 ^ 8) + 2 ^ 40 * (st .version % 2 ^ 7)
 
 unfoldable pub stateOf : Writer → ℕ

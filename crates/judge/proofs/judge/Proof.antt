@@ -6,9 +6,8 @@ use lib.ListN.{length}
 use denote.Ref.{now}
 use Rattle.field.specs.Steps.{maxClaims}
 use Rattle.book.specs.declared.Book.{Book}
-use Rattle.book.specs.declared.Reading.{Reading}
 use Rattle.book.specs.Reading.{Contents, sound, refused, readBook}
-use Rattle.book.specs.Held.{readingOf, bookOf, outcome-refused, outcome-sound}
+use Rattle.book.specs.Held.{bookOf, read-refused, read-sound}
 use Rattle.book.specs.Sound.{sound-book, refused-inside}
 use Rattle.judge.specs.Totals.{Countable, totalsWord}
 use Rattle.judge.specs.Run.{run-refused, run-short, run-sound}
@@ -28,8 +27,7 @@ abbrev bad : tie.After-known-told → List ℕ
 bad c = now (c .before .before .before .before .before .before .before .args .book)
 
 refused-so : (c : tie.After-known-told) → readBook (bad c) ≡ refused (c .before .outcome .given .0 .0) (c .before .outcome .given .0 .1 .0)
-refused-so c =
-    outcome-refused (readBook (bad c)) _ _ (ap (λ (r : Reading). r .outcome) (sym (c .before .before .before .before .read .ensures)) ∙ c .before .outcome .given .1)
+refused-so c = read-refused (bad c) (c .before .before .before .before .read .ensures) (c .before .outcome .given .1)
 
 refused-requires : tie.Need-refused-requires
 refused-requires c κs = refused-inside (bad c) _ _ (refused-so c) .1
@@ -46,15 +44,11 @@ enum-told c = search needs
 abbrev book : tie.After-enum-told → List ℕ
 book c = now (c .before .before .before .before .before .before .args .book)
 
-sound-so : (c : tie.After-enum-told) → (b : Contents) × (readBook (book c) ≡ sound b)
-sound-so c = outcome-sound (readBook (book c)) (ap (λ (r : Reading). r .outcome) (sym (c .before .before .before .read .ensures)) ∙ c .enum-told .given .1)
-
-held : (c : tie.After-enum-told) → c .before .before .before .read .result .book ≡ bookOf (sound-so c .0)
-unfolding readingOf
-held c = ap (λ (r : Reading). r .book) (c .before .before .before .read .ensures ∙ ap readingOf (sound-so c .1))
+sound-so : (c : tie.After-enum-told) → (b : Contents) × (readBook (book c) ≡ sound b) × (c .before .before .before .read .result .book ≡ bookOf b)
+sound-so c = read-sound (book c) (c .before .before .before .read .ensures) (c .enum-told .given .1)
 
 count : (c : tie.After-enum-told) → c .before .before .before .read .result .book .claims ≡ length (sound-so c .0 .claims)
-count c = ap (λ (x : Book). x .claims) (held c)
+count c = ap (λ (x : Book). x .claims) (sound-so c .2)
 
 few : (c : tie.After-enum-told) → length (sound-so c .0 .claims) ≤ maxClaims
 few c = sound-book _ _ (sound-so c .1) .claims-fit
@@ -75,7 +69,7 @@ run-requires : tie.Need-run-requires
 run-requires c κs = record {
   contents = sound-so (c .before .before) .0;
   so = sound-so (c .before .before) .1;
-  held = held (c .before .before);
+  held = sound-so (c .before .before) .2;
   room = omega (arith, count (c .before .before));
 }
 

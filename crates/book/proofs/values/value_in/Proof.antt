@@ -1,23 +1,17 @@
-use Prim.Native.Nat.{ℕ, _≤_, _<_}
+use Prim.Native.Nat.{ℕ, _<_}
 use mathlib.Core.List.{List}
 use mathlib.Core.Path.{_≡_, sym, ap, _∙_}
 use native.Mathlib.Omega.{arith}
-use lib.ListN.{length, getD}
+use lib.ListN.{length}
 use denote.Ref.{now}
-use borrow.Author.Tests.{le-leb, lt-leb, lt-ltb, le-ltb}
 use Rattle.minplus.specs.Curve.{Curve, value}
-use Rattle.curve.specs.Filled.{array-at}
-use Rattle.curve.specs.Held as held-curves
-use Rattle.curve.specs.declared.Curve as held-curve
-use Rattle.content.specs.Sound.{curve-well-formed}
-use Rattle.content.specs.Layout.{curveIn}
-use Rattle.field.specs.Fields.{contentAt}
-use Rattle.book.specs.Held.{readingOf, outcome-refused, outcome-sound}
+use Rattle.curve.specs.Held.{curveOf, holding, holding-back}
+use Rattle.book.specs.Held.{bookOf, read-refused, read-sound}
 use Rattle.book.specs.Sound.{sound-book}
-use Rattle.book.specs.Values.{maxTick, askedOf, valueAsked}
-use Rattle.book.specs.Reading.{Contents, Read, sound, readBook}
+use Rattle.book.specs.Values.{curveNamed, named-array, named-well, asked-refused, asked-none, asked-far, asked-value}
+use Rattle.book.specs.Reading.{Contents, sound, readBook}
 use Rattle.book.specs.declared.Asked.the-variants as asked
-use Rattle.book.specs.declared.Reading.{Reading}
+use Rattle.book.specs.declared.Book.{Book}
 use Rattle.book.proofs.values.value_in.Statement.{statement}
 use Rattle.book.proofs.values.value_in.Tie as tie
 use borrow.Author.Needs.{needs}
@@ -32,17 +26,11 @@ enum-known-outcome c = search needs
 abbrev book : tie.After-enum-told → List ℕ
 book c = now (c .before .before .before .before .before .args .book)
 
-sound-so : (c : tie.After-enum-told) → (b : Contents) × (readBook (book c) ≡ sound b)
-sound-so c =
-    outcome-sound (readBook (book c))
-    (ap (λ (r : Reading). r .outcome) (sym (c .before .before .before .read .ensures)) ∙ c .enum-told .given .1)
-
-held : (c : tie.After-enum-told) → c .before .before .before .read .result ≡ readingOf (sound (sound-so c .0))
-held c = c .before .before .before .read .ensures ∙ ap readingOf (sound-so c .1)
+sound-so : (c : tie.After-enum-told) → (b : Contents) × (readBook (book c) ≡ sound b) × (c .before .before .before .read .result .book ≡ bookOf b)
+sound-so c = read-sound (book c) (c .before .before .before .read .ensures) (c .enum-told .given .1)
 
 count : (c : tie.After-enum-told) → c .before .before .before .read .result .book .curves ≡ length (sound-so c .0 .curves)
-unfolding readingOf
-count c = ap (λ (r : Reading). r .book .curves) (held c)
+count c = ap (λ (b : Book). b .curves) (sound-so c .2)
 
 -- a number that names a curve
 named : (c : tie.Else1) → c .before .before .before .before .before .before .args .curve < length (sound-so (c .before) .0 .curves)
@@ -52,28 +40,24 @@ room : (c : tie.Else1) → c .before .before .before .before .before .before .ar
 room c = omega (arith, named c, sound-book _ _ (sound-so (c .before) .1) .curves-fit)
 
 returns : tie.Need-returns
-unfolding valueAsked
 returns c =
     let a = c .before .before .before .before .before .before .args in
-    sym (ap (λ (r : Read). askedOf (now (a .book)) r (a .curve) (a .tick))
-    (outcome-refused (readBook (now (a .book))) _ _ (ap (λ (r : Reading). r .outcome) (sym (c .before .before .before .before .read .ensures)) ∙ c .before .outcome .given .1)))
+    sym (asked-refused (now (a .book)) (a .curve) (a .tick) _ _ (read-refused (now (a .book)) (c .before .before .before .before .read .ensures) (c .before .outcome .given .1)))
 
 enum-told : tie.Need-enum-told
 enum-told c = search needs
 
 returns-2 : tie.Need-returns-2
-unfolding valueAsked
 returns-2 c =
     let a = c .before .before .before .before .before .before .args in
-    let few : length (sound-so (c .before) .0 .curves) ≤ a .curve = omega (arith, count (c .before)) in
-    sym (ap (λ (r : Read). askedOf (now (a .book)) r (a .curve) (a .tick)) (sound-so (c .before) .1) ∙ rw (le-leb _ _ few, askedOf))
+    let so = sound-so (c .before) in
+    sym (asked-none (now (a .book)) (a .curve) (a .tick) (so .0) (so .1) (omega (arith, count (c .before))))
 
 returns-3 : tie.Need-returns-3
-unfolding valueAsked
 returns-3 c =
     let a = c .before .before .before .before .before .before .before .args in
-    sym (ap (λ (r : Read). askedOf (now (a .book)) r (a .curve) (a .tick)) (sound-so (c .before .before) .1)
-    ∙ rw (lt-leb _ _ (named (c .before)), lt-ltb maxTick (a .tick) (omega arith), askedOf))
+    let so = sound-so (c .before .before) in
+    sym (asked-far (now (a .book)) (a .curve) (a .tick) (so .0) (so .1) (named (c .before)) (omega arith))
 
 mul-place : tie.Need-mul-place
 mul-place c = omega (arith, room (c .before .before))
@@ -94,21 +78,17 @@ value-at-requires : tie.Need-value-at-requires
 value-at-requires c κs = search needs
 
 returns-4 : tie.Need-returns-4
-unfolding valueAsked readingOf
 returns-4 c =
     let a = c .before .before .before .before .before .before .before .before .before .before .before .before .before .before .before .before .args in
-    let s = now (a .book) in
     let at = c .before .before .before .before .before .before .before .before .before .before in
-    let b = sound-so (at .before) .0 in
-    let content = contentAt s (getD (b .curves) (a .curve) 0) in
-    let place = ap (λ (r : Reading). getD (r .book .places .curves) (a .curve) 0) (held (at .before)) ∙ array-at 16 (b .curves) (a .curve) (named at) in
-    let is : c .before .before .before .before .before .before .curve-at .result ≡ held-curves.holding (curveIn content) =
-    c .before .before .before .before .before .before .curve-at .ensures ∙ ap (λ (p : ℕ). held-curves.holding (curveIn (contentAt s p))) place in
-    let well = curve-well-formed content (sound-book _ _ (sound-so (at .before) .1) .each-curve (a .curve) (named at)) in
-    let due = c .value-at .ensures ∙ ap (λ (f : held-curve.Curve). value (held-curves.curveOf f) (a .tick)) is ∙ ap (λ (f : Curve). value f (a .tick)) (held-curves.holding-back (curveIn content) well) in
-    ap (λ (v : ℕ). asked.Value (record { 0 = v })) due
-    ∙ sym (ap (λ (r : Read). askedOf s r (a .curve) (a .tick)) (sound-so (at .before) .1)
-    ∙ rw (lt-leb _ _ (named at), le-ltb maxTick (a .tick) (omega arith), askedOf))
+    let s = now (a .book) in
+    let so = sound-so (at .before) in
+    let is = c .before .before .before .before .before .before .curve-at .ensures
+    ∙ ap (λ (b : Book). holding (curveNamed s (b .places .curves) (a .curve))) (so .2)
+    ∙ ap holding (named-array s (so .0 .curves) (a .curve) (named at)) in
+    let back = ap curveOf is ∙ holding-back (curveNamed s (so .0 .curves) (a .curve)) (named-well (sound-book s (so .0) (so .1)) (a .curve) (named at)) in
+    ap (λ (v : ℕ). asked.Value (record { 0 = v })) (c .value-at .ensures ∙ ap (λ (f : Curve). value f (a .tick)) back)
+    ∙ sym (asked-value s (a .curve) (a .tick) (so .0) (so .1) (named at) (omega arith))
 
 pub value-in-spec : {M : Type 1} → statement M
 value-in-spec =

@@ -1,12 +1,12 @@
-use Prim.Native.Nat.{ℕ, _+_, _-_, _≤_, min}
+use Prim.Native.Nat.{_+_, _-_, _≤_, min}
 use mathlib.Core.Path.{_≡_, sym, ap}
 use mathlib.Core.Logic.{⊎-elim}
 use native.Mathlib.Omega.{arith}
-use lib.ListN.{length, take}
+use lib.ListN.{length}
 use lib.Seq.{length-take-le}
 use denote.Ref.{now}
-use Rattle.curve.specs.Filled.{listOf, filled, filled-none, filled-more, filled-length, filled-taken}
-use Rattle.curve.specs.Held.{padded, padded-listed}
+use Rattle.curve.specs.Filled.{filled, filled-none, filled-more, filled-length}
+use Rattle.curve.specs.Held.{padded-filled}
 use Rattle.content.specs.Layout.{valueIn, countIn}
 use Rattle.content.proofs.curves.curve_in.Statement.{statement}
 use Rattle.content.proofs.curves.curve_in.Tie as tie
@@ -81,13 +81,9 @@ returns c =
     let now-at = c .before .before .before .loop in
     let c₄ = c .before .before .before .before .before in
     let content = now (c₄ .before .before .before .before .args .content) in
-    let F : ℕ → ℕ = valueIn content in
-    let n = now-at .n in
-    let e : c .before .before .before .before .if1 .held ≡ n = omega arith in
-    let capped : min n 256 ≡ min (countIn content) 256 = omega arith in
-    let listed : padded (take n (now-at .values)) ≡ padded (listOf F (countIn content)) =
-    rw (now-at .inv .1 .1, filled-taken F 256 n, padded-listed F n, capped, padded-listed F (countIn content)) in
-    rw (c .new .ensures, e, listed, c₄ .before .before .number2 .ensures .0, c₄ .before .number22 .ensures .0, c₄ .number4 .ensures)
+    let e : c .before .before .before .before .if1 .held ≡ now-at .n = omega arith in
+    let listed = padded-filled (valueIn content) (now-at .n) (countIn content) (omega arith) in
+    rw (c .new .ensures, e, now-at .inv .1 .1, listed, c₄ .before .before .number2 .ensures .0, c₄ .before .number22 .ensures .0, c₄ .number4 .ensures)
 
 pub curve-in-spec : {M : Type 1} → statement M
 curve-in-spec =

@@ -10,7 +10,7 @@ use Rattle.content.specs.declared.ClaimField.the-variants as claim-field
 use Rattle.field.specs.Fields.{contentAt}
 use Rattle.content.specs.Refusals.{claimField}
 use Rattle.judge.specs.Claims.{claimOn, verdictFor, verdictIn}
-use Rattle.judge.specs.Held.{Told, told, claim-held}
+use Rattle.judge.specs.Held.{ClaimTold, claim-told, claim-held}
 use borrow.Author.Needs.{needs}
 use Rattle.judge.proofs.claims.record_at.Statement.{statement}
 use Rattle.judge.proofs.claims.record_at.Tie as tie
@@ -47,8 +47,8 @@ places c = c .before .before .before .before .before .args .places .curves
 so : (c : tie.After-known-told) → claimField (c .before .before .before .before .before .args .curves) (contentAt (book c) (c .before .before .before .before .before .args .place)) ≡ claim-field.Stated (stated c)
 so c = sym (c .before .before .before .claim-at .ensures) ∙ c .before .stated .given .1
 
-known : (c : tie.After-known-told) → Told (book c) (places c) (stated c)
-known c = told (c .before .before .before .before .before .pre) (stated c) (so c)
+known : (c : tie.After-known-told) → ClaimTold (book c) (places c) (stated c)
+known c = claim-told (c .before .before .before .before .before .pre) (stated c) (so c)
 
 curve-named-requires : tie.Need-curve-named-requires
 curve-named-requires c κs = known c .left-named

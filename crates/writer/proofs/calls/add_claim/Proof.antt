@@ -7,7 +7,7 @@ use borrow.Author.Tests.{leb-false}
 use Rattle.content.specs.declared.Checked.the-variants.{Sound}
 use Rattle.content.specs.Layout.{third-small}
 use Rattle.field.specs.Steps.{maxClaims, full, after}
-use Rattle.writer.specs.Writing.{Call, addClaim, fieldOf, argumentFault, callFault, Passes, passes}
+use Rattle.writer.specs.Writing.{Call, addClaim, callField, argumentFault, callFault, Passes, passes}
 use Rattle.writer.specs.Held.{claim-size, fault-is, moved-by, refused-return, taken-return}
 use borrow.Author.Needs.{needs}
 use Rattle.writer.proofs.calls.add_claim.Statement.{statement}
@@ -16,7 +16,7 @@ use Rattle.writer.proofs.calls.add_claim.Tie as tie
 abbrev call : tie.Start → Call
 call c = let a = c .args in addClaim (record { kind = a .kind; left = a .left; right = a .right; third = a .third })
 
-size : (c : tie.After-admitted) → length (fieldOf (call (c .before .before .before .before .before))) ≡ 6 + c .before .before .third-width .result
+size : (c : tie.After-admitted) → length (callField (call (c .before .before .before .before .before))) ≡ 6 + c .before .before .third-width .result
 size c = claim-size _ ∙ sym (ap (λ (n : ℕ). 6 + n) (c .before .before .third-width .ensures))
 
 fault : (c : tie.After-admitted) → c .admitted .result ≡ callFault (c .before .before .before .before .before .args .writer) (length (now (c .before .before .before .before .before .args .out))) (call (c .before .before .before .before .before))

@@ -6,7 +6,7 @@ use denote.Ref.{now}
 use borrow.Author.Tests.{leb-false}
 use Rattle.content.specs.declared.Checked.the-variants.{Sound}
 use Rattle.field.specs.Steps.{maxCurves, full, after}
-use Rattle.writer.specs.Writing.{Call, addCurve, fieldOf, argumentFault, callFault, Passes, passes}
+use Rattle.writer.specs.Writing.{Call, addCurve, callField, argumentFault, callFault, Passes, passes}
 use Rattle.writer.specs.Held.{curve-size, fault-is, moved-by, refused-return, taken-return}
 use borrow.Author.Needs.{needs}
 use Rattle.writer.proofs.calls.add_curve.Statement.{statement}
@@ -15,7 +15,7 @@ use Rattle.writer.proofs.calls.add_curve.Tie as tie
 abbrev call : tie.Start → Call
 call c = let a = c .args in addCurve (record { rank = a .rank; period = a .period; increment = a .increment; listed = now (a .values) })
 
-size : (c : tie.After-admitted) → length (fieldOf (call (c .before .before .before .before .before))) ≡ 11 + 4 * length (now (c .before .before .before .before .before .args .values))
+size : (c : tie.After-admitted) → length (callField (call (c .before .before .before .before .before))) ≡ 11 + 4 * length (now (c .before .before .before .before .before .args .values))
 size c = curve-size _
 
 fault : (c : tie.After-admitted) → c .admitted .result ≡ callFault (c .before .before .before .before .before .args .writer) (length (now (c .before .before .before .before .before .args .out))) (call (c .before .before .before .before .before))

@@ -4,7 +4,7 @@ use lib.ListN.{length}
 use denote.Ref.{now}
 use Rattle.content.specs.declared.Checked.the-variants.{Sound}
 use Rattle.field.specs.Steps.{after}
-use Rattle.writer.specs.Writing.{Call, begin, fieldOf, argumentFault, callFault, Passes, passes}
+use Rattle.writer.specs.Writing.{Call, begin, callField, argumentFault, callFault, Passes, passes}
 use Rattle.writer.specs.Held.{version-size, fault-is, moved-by, refused-return, taken-return}
 use borrow.Author.Needs.{needs}
 use Rattle.writer.proofs.calls.begin.Statement.{statement}
@@ -13,7 +13,7 @@ use Rattle.writer.proofs.calls.begin.Tie as tie
 abbrev call : tie.Start → Call
 call c = begin 1
 
-size : (c : tie.After-admitted) → length (fieldOf (call (c .before .before .before))) ≡ 4
+size : (c : tie.After-admitted) → length (callField (call (c .before .before .before))) ≡ 4
 size c = version-size 1
 
 fault : (c : tie.After-admitted) → c .admitted .result ≡ callFault (c .before .before .before .args .writer) (length (now (c .before .before .before .args .out))) (call (c .before .before .before))

@@ -1,8 +1,7 @@
 use native.Mathlib.Omega.{arith}
 use denote.Ref.{now}
 use Rattle.minplus.specs.Curve.{Curve}
-use Rattle.field.specs.declared.Tag.the-variants as tag
-use Rattle.writer.specs.Held.{curve-size, number-length, head-length, curve-put}
+use Rattle.writer.specs.Held.{curve-size, curve-room, curve-put}
 use borrow.Author.Needs.{needs}
 use Rattle.writer.proofs.fields.put_curve.Statement.{statement}
 use Rattle.writer.proofs.fields.put_curve.Tie as tie
@@ -47,16 +46,7 @@ put-values-requires c κs =
     let one = two .before .before .before .before in
     let headed = one .before .before .before .before in
     let start = headed .before .before .before .before in
-    let size = curve-size (curve start) in
-    omega (
-      arith,
-      number-length _ _ _ (three .put3 .ensures),
-      number-length _ _ _ (two .put2 .ensures),
-      number-length _ _ _ (one .put .ensures),
-      head-length (now (start .args .out)) (start .args .place) tag.Curve _ (omega (arith, start .pre, size)) (headed .put-head .ensures),
-      start .pre,
-      size,
-    )
+    curve-room (now (start .args .out)) (start .args .place) (curve start) (start .pre) (headed .put-head .ensures) (one .put .ensures) (two .put2 .ensures) (three .put3 .ensures)
 
 same-length : tie.Need-same-length
 same-length c = search needs

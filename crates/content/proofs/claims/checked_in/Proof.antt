@@ -1,6 +1,6 @@
 use borrow.Author.Needs.{needs}
-use Rattle.content.proofs.claims.refusal_in.Statement.{statement}
-use Rattle.content.proofs.claims.refusal_in.Tie as tie
+use Rattle.content.proofs.claims.checked_in.Statement.{statement}
+use Rattle.content.proofs.claims.checked_in.Tie as tie
 
 enum-known-field : tie.Need-enum-known-field
 enum-known-field c = search needs
@@ -14,5 +14,5 @@ returns c = rw (c .before .field .given .1)
 returns-2 : tie.Need-returns-2
 returns-2 c = search needs
 
-pub refusal-in-spec : {M : Type 1} → statement M
-refusal-in-spec = tie.close (tie.spec enum-known-field enum-told returns returns-2)
+pub checked-in-spec : {M : Type 1} → statement M
+checked-in-spec = tie.close (tie.spec enum-known-field enum-told returns returns-2)
