@@ -6,7 +6,7 @@
 use crate::book::read;
 use crate::dice::Dice;
 use crate::judge::{MOST_TICK, RECORD};
-use crate::make::{crossing_book, large_book, many_claims, small_book, unjudged_book};
+use crate::make::{crossing_book, large_book, many_claims, ranks_book, small_book, unjudged_book};
 use crate::spoil::{long_book, rubbish, spoil_bytes, spoil_fields, spoil_twice};
 use std::io::{self, Write};
 
@@ -73,6 +73,7 @@ fn any_book(dice: &mut Dice) -> (&'static str, Vec<u8>) {
         140..=339 => ("a field spoiled", spoil_fields(dice)),
         340..=419 => ("several faults", spoil_twice(dice)),
         420..=519 => ("edges", small_book(dice, true).bytes()),
+        520..=534 => ("ranks at the limit", ranks_book(dice).bytes()),
         _ => ("sound", small_book(dice, false).bytes()),
     }
 }

@@ -6,6 +6,7 @@
 //! many_claims      up to 256 claims over a few curves
 //! large_book       a horizon of 4,095 to 4,097
 //! crossing_book    a crossing N that decides whether the horizon is above 4,096
+//! ranks_book       a horizon of 4,096 or 4,097 by ranks, with different rates
 //! unjudged_book    a horizon above 4,096, cheap for any judge
 //! one_claim        a book of one small claim of a given kind
 //! steep_triple     f, g and their convolution, with T+T'+2*2,021 as the horizon
@@ -451,22 +452,15 @@ pub fn large_book(dice: &mut Dice) -> Book {
 
 const COPRIME: [(i64, i64); 4] = [(61, 67), (63, 65), (63, 64), (59, 67)];
 
-/// Lines of coprime periods; one of the three ranks brings the horizon to the target. Of a
-/// minimum one line may be faster: it is then nowhere below the other, and N is 0.
+/// Lines of coprime periods; one of the three ranks brings the horizon to the target.
 fn far_lines(dice: &mut Dice, book: &mut Book, kind: u8, target: i64) {
     let (d, e) = dice.pick(&COPRIME);
     let most = target - d * e;
     let mut ranks = [0; 3].map(|_| dice.below(most + 1));
     ranks[dice.index(3)] = most;
     let pace = dice.below(3);
-    let mut starts = [dice.below(3), dice.below(3)];
-    let mut faster = pace;
-    if kind == 2 && dice.once_in(2) {
-        faster += 1;
-        starts.sort();
-    }
-    let f = line(ranks[0], d, pace, starts[0]);
-    let g = line(ranks[1], e, faster, starts[1]);
+    let f = line(ranks[0], d, pace, dice.below(3));
+    let g = line(ranks[1], e, pace, dice.below(3));
     let (start, pace) = match kind {
         1 => (f.values[0] + g.values[0], 2 * pace),
         _ => (f.values[0].min(g.values[0]), pace),
@@ -475,30 +469,51 @@ fn far_lines(dice: &mut Dice, book: &mut Book, kind: u8, target: i64) {
     if dice.once_in(2) {
         h = nearly(dice, h);
     }
-    either_way(dice, book, kind, [f, g, h]);
+    let (left, right, third) = (book.add(f), book.add(g), book.add(h));
+    book.claim(kind, left, right, third.into());
+}
+
+/// Lines of different rates that cross at once, so that ranks and periods alone bring the
+/// horizon to 4,096 or 4,097. Kinds 1 to 3 mostly break at tick 0, so they are cheap if judged.
+pub fn ranks_book(dice: &mut Dice) -> Book {
+    let mut book = Book::default();
+    let kind = dice.between(1, 7) as u8;
+    let (d, e) = match kind {
+        3 => (43, 47),
+        _ => dice.pick(&COPRIME),
+    };
+    let twice = if kind == 3 { 2 } else { 1 };
+    let most = dice.pick(&[MOST_HORIZON, MOST_HORIZON + 1]) - twice * d * e;
+    let any = dice.below(most + 1);
+    let (t, u) = match dice.below(3) {
+        _ if kind == 3 => (any, most - any),
+        0 => (most, any),
+        1 => (any, most),
+        _ => (most, most),
+    };
+    let (slow, fast) = (book.add(line(t, d, 0, 0)), book.add(line(u, e, 1, 2)));
+    let (left, right) = match dice.below(2) {
+        0 => (slow, fast),
+        _ => (fast, slow),
+    };
+    let wrong = if dice.once_in(20) { 0 } else { 1 };
+    let third = match kind {
+        1 => book.add(line(any.min(9), 1, 1, 2 + wrong)).into(),
+        2 => book.add(line(any.min(9), 1, 0, wrong)).into(),
+        3 => book.add(line(any.min(9), 1, 0, 2 + wrong)).into(),
+        _ => dice.below(2),
+    };
+    book.claim(kind, left, right, third);
+    shuffled(dice, book)
 }
 
 fn far_convolution(dice: &mut Dice, book: &mut Book, target: i64) {
-    let ranks = target - 2 * 2_021;
-    let [f, g, mut h] = if dice.once_in(2) {
-        steep_triple(dice.below(4), ranks)
-    } else {
-        slower_triple(dice, ranks)
-    };
+    let [f, g, mut h] = steep_triple(dice.below(4), target - 2 * 2_021);
     if dice.once_in(2) {
         h = nearly(dice, h);
     }
-    either_way(dice, book, 3, [f, g, h]);
-}
-
-/// The claim h of f and g, with f on the left or on the right.
-fn either_way(dice: &mut Dice, book: &mut Book, kind: u8, [f, g, h]: [Curve; 3]) {
     let (left, right, third) = (book.add(f), book.add(g), book.add(h));
-    if dice.once_in(2) {
-        book.claim(kind, left, right, third.into());
-    } else {
-        book.claim(kind, right, left, third.into());
-    }
+    book.claim(3, left, right, third.into());
 }
 
 /// The slower curve stands at `high`, so N is high/pace rounded up and one tick less than
@@ -610,16 +625,6 @@ pub fn steep_triple(which: i64, ranks: i64) -> [Curve; 3] {
     let t = (0..=ranks).find(|t| repeats(&values, *t, 1));
     let h = t.and_then(|t| form(&values, t, 1));
     [f, g, h.expect("the convolution ends as a line of pace 1")]
-}
-
-/// Periods 43 and 47 and ranks that add up to `ranks`: zero, and a faster line whose first
-/// value their convolution has at every tick. N is below the ranks' sum, so the horizon is
-/// ranks + 2*43*47.
-fn slower_triple(dice: &mut Dice, ranks: i64) -> [Curve; 3] {
-    let t = dice.between(0, ranks);
-    let g = line(ranks - t, 47, dice.between(1, 3), dice.below(3));
-    let h = line(dice.below(ranks), 1, 0, g.values[0]);
-    [line(t, 43, 0, 0), g, h]
 }
 
 fn curve_of(t: i64, d: i64, f: impl Fn(i64) -> i64) -> Curve {

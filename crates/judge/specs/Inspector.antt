@@ -9,7 +9,7 @@
 --     IsClaim, claimCurve     claim k and its curves, as the claim's bytes say it (claimContent)
 --     accepted-convolution    for the code 1 of kind 3 spelled out: h(n) is the least f(u)+g(n-u), at every n
 --     certified-means         a certified book: at least one claim, and each holds at every tick
---     inspected-w8            W8 is such a book; w4, inspected-w4: W4 has a claim of kind 3 that is accepted
+--     inspected-w8            W8 is such a book; short-w8: with a byte too few for its record it is refused; w4, inspected-w4: W4 has a claim of kind 3 that is accepted
 use Prim.Native.Nat.{ℕ, zero, suc, _+_, _*_, _≤_, _<_, _^_}
 use mathlib.Core.Path.{_≡_, refl, sym, ap, subst, _∙_}
 use mathlib.Core.Bool.{Bool, true, false}
@@ -337,6 +337,11 @@ certified-means {a = a} {after = after} judged =
 pub inspected-w8 : (answerOf w8 (replicate 24 7) ≡ 2 ^ 24) × (bufferOf w8 (replicate 24 7) ≡ 1 ∷ (replicate 20 0 ++ replicate 3 7))
 unfolding answerOf bufferOf w8 tagBy kindBy numberAt listOf
 inspected-w8 = (refl, refl)
+
+-- with a byte too few for its record: 14 at place 0, and nothing is written
+pub short-w8 : (answerOf w8 (replicate 20 7) ≡ 14) × (bufferOf w8 (replicate 20 7) ≡ replicate 20 7)
+unfolding answerOf bufferOf w8 tagBy kindBy numberAt listOf numberOf
+short-w8 = (refl, refl)
 
 -- version; A; B; their convolution; "A conv B"; end
 unfoldable pub w4 : List ℕ

@@ -8,7 +8,8 @@
 --     totalsWord              as an answer
 --     totals-add-up           of verdicts they add up
 --     count-all               all are such exactly when as many are
-use Prim.Native.Nat.{ℕ, zero, suc, _+_, _≤_, _<_}
+--     each-code               one record of each code: one accepted, three refuted, one not judged, as an answer
+use Prim.Native.Nat.{ℕ, zero, suc, _+_, _*_, _^_, _≤_, _<_}
 use mathlib.Core.Path.{_≡_, refl}
 use mathlib.Core.Logic.{_↔_}
 use mathlib.Core.Bool.{Bool, true, false, _||_}
@@ -103,3 +104,7 @@ count-all p codes (suc n) = (to (p (codes n)) refl (count-all p codes n .0), bac
 
     back : (((k : ℕ) → k < n → p (codes k) ≡ true) → countTo p codes n ≡ n) → ((k : ℕ) → k < suc n → p (codes k) ≡ true) → more (p (codes n)) (countTo p codes n) ≡ suc n
     back before each = rw (each n (omega arith), before (λ k lt. each k (omega arith))) (omega arith)
+
+pub each-code : totalsWord (totalsTo suc 5) ≡ 2 ^ 24 + 3 * 2 ^ 36 + 2 ^ 48
+unfolding totalsTo
+each-code = refl
