@@ -20,7 +20,7 @@ use lib.ListN.{length, getD}
 use lib.Seq.{getD-take}
 use Rattle.minplus.specs.Search.{best-same}
 use Rattle.minplus.specs.Curve as C
-use Rattle.minplus.specs.Divisor.{lcm-comm}
+use Rattle.minplus.specs.Ranks.{common-comm, by-rates}
 use Rattle.minplus.specs.Claim as M
 use Rattle.minplus.specs.Horizon as H
 use Rattle.minplus.specs.Crossing.{Slower}
@@ -151,10 +151,10 @@ module _ (f g : C.Curve) (equal : ℕ) (N : C.Curve → C.Curve → ℕ) where
   rates-even e d = rw (e, d, H.byRates)
 
 even-comm : (op : M.Operation) (f g : C.Curve) → evenRank op f g ≡ evenRank op g f
-unfolding evenRank H.commonPeriod
+unfolding evenRank
 even-comm M.sum f g = max-comm (f .rank) (g .rank)
 even-comm M.minimum f g = max-comm (f .rank) (g .rank)
-even-comm M.convolution f g = omega (arith, lcm-comm (f .period) (g .period))
+even-comm M.convolution f g = omega (arith, common-comm f g)
 
 -- the ways in which two rates can stand share the rank E, where E is the same for both orders
 rates-max : (f g : C.Curve) (E N : C.Curve → C.Curve → ℕ) → E f g ≡ E g f
@@ -169,18 +169,9 @@ rates-max f g E N comm = go (H.slower f g) (H.slower g f)
     go false true = ap (λ (e : ℕ). max e (N g f)) (sym comm)
     go false false = omega arith
 
-rates-none : (f g : C.Curve) → H.byRates f g 0 (crossingN M.sum) ≡ 0
-unfolding H.byRates crossingN
-rates-none f g = go (H.slower f g) (H.slower g f)
-  where
-    go : (t u : Bool) → _≡_ {A = ℕ} (elim t as (λ _. ℕ) [ true ↦ 0 | false ↦ elim u as (λ _. ℕ) [ true ↦ 0 | false ↦ 0 ] ]) 0
-    go true u = refl
-    go false true = refl
-    go false false = refl
-
 pub rank-is : (op : M.Operation) (f g : C.Curve) → H.rankOf op f g ≡ max (evenRank op f g) (H.byRates f g 0 (crossingN op))
 unfolding H.rankOf evenRank crossingN
-rank-is M.sum f g = omega (arith, rates-none f g)
+rank-is M.sum f g = omega (arith, by-rates (λ N. N ≡ 0) f g 0 (crossingN M.sum) (λ _. refl) (λ _. refl) (λ _. refl))
 rank-is M.minimum f g = rates-max f g (evenRank M.minimum) H.minimumN (even-comm M.minimum f g)
 rank-is M.convolution f g = rates-max f g (evenRank M.convolution) H.convolutionN (even-comm M.convolution f g)
 

@@ -4,7 +4,8 @@
 --     crossed           at and after N the slower curve of a minimum is below
 --     split-crossed     at and after N a split that leaves f less than T ticks is no better than the one that leaves g T' ticks
 --     conv-gains        a convolution gains the smaller gain, where such splits are not needed
---     gainOver          what a curve gains over D (common-positive, left-gains, right-gains); gain-le, gain-lt: the slower one gains less
+--     gainOver          what a curve gains over D (common-positive, common-comm, left-gains, right-gains); gain-le, gain-lt: the slower one gains less
+--     by-rates          what holds in each of the three ways that two rates can stand
 --     gainOf, rank-gains     the gain over D, by combined, and the theorem for every operation
 use Prim.Native.Nat.{ℕ, _+_, _-_, _*_, _/_, _%_, _≤_, _<_, min, max}
 use mathlib.Core.Path.{_≡_, refl, sym, ap, _∙_, subst}
@@ -215,7 +216,7 @@ module _ (f g : Curve) (positive : 1 ≤ f .period) (positive′ : 1 ≤ g .peri
       )))
 
 -- a rank by rates: what holds in each of the three cases
-by-rates : (Q : ℕ → Type 0) (f g : Curve) (equal : ℕ) (fSlower : Curve → Curve → ℕ)
+pub by-rates : (Q : ℕ → Type 0) (f g : Curve) (equal : ℕ) (fSlower : Curve → Curve → ℕ)
     → (f .increment * g .period ≡ g .increment * f .period → Q equal) → (Slower f g → Q (fSlower f g)) → (Slower g f → Q (fSlower g f))
     → Q (byRates f g equal fSlower)
 unfolding byRates
@@ -227,7 +228,7 @@ by-rates Q f g equal fSlower same left right = go (slower f g) refl (slower g f)
     go false e true e′ = right (ltb-true _ _ e′)
     go false e false e′ = same (le-antisymm (ltb-false _ _ e′) (ltb-false _ _ e))
 
-common-comm : (f g : Curve) → commonPeriod f g ≡ commonPeriod g f
+pub common-comm : (f g : Curve) → commonPeriod f g ≡ commonPeriod g f
 unfolding commonPeriod
 common-comm f g = lcm-comm (f .period) (g .period)
 

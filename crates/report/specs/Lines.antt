@@ -2,7 +2,7 @@
 --
 --     part w n            words and the number after them; lastPart: and the end of the line
 --     claimLine, totalLine, certifiedLine, refusedLine     the lines; claimLines: those of the first claims
---     verdictWords        a claim's line after `claim K`, by its record's numbers; wordsIn: by its record; refutedAt: code 2
+--     verdictWords        a claim's line after `claim K`, by its record's numbers; wordsIn: by its record; refutedAt: code 2 (words-refuted)
 --     reportOf            the whole text
 --     reportIn            the same where the lent bytes have room for it, else nothing
 --     maxLine, maxWords   the length of the longest line, and of the longest verdictWords
@@ -11,7 +11,7 @@
 --     report-short, report-refused, report-judged     reportIn, by its tests
 use Prim.Native.Nat.{ℕ, zero, suc, _+_, _*_, _^_, _≤_, _<_}
 use Prim.Native.String.{String}
-use mathlib.Core.Path.{_≡_}
+use mathlib.Core.Path.{_≡_, refl}
 use mathlib.Core.Bool.{cond}
 use mathlib.Core.List.{List, [], _++_}
 use native.Mathlib.Omega.{arith}
@@ -113,6 +113,10 @@ total-short {accepted} {refuted} {unjudged} few = (
   decimal-short 3 refuted (omega arith),
   decimal-short 4 unjudged (omega arith),
 )
+
+pub words-refuted : (tick left right : ℕ) → verdictWords 2 tick left right ≡ refutedAt tick left right
+unfolding verdictWords
+words-refuted tick left right = refl
 
 module _ (room answer : ℕ) (verdicts : List ℕ) where
   pub report-short : room < maxLine * (claimsIn answer + 2) → reportIn room answer verdicts ≡ []

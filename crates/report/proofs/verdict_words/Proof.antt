@@ -1,11 +1,10 @@
-use Prim.Native.Nat.{ℕ}
-use mathlib.Core.Path.{_≡_, refl, sym, _∙_}
+use mathlib.Core.Path.{_≡_, sym, _∙_}
 use native.Mathlib.Omega.{arith}
 use denote.Ref.{now}
 use borrow.Author.Needs.{needs}
 use borrow.Author.Tests.{ne-eqb}
 use Rattle.judge.specs.Answer.{codeIn, tickIn, leftIn, rightIn}
-use Rattle.report.specs.Lines.{refutedAt, verdictWords}
+use Rattle.report.specs.Lines.{verdictWords, words-refuted}
 use Rattle.report.proofs.verdict_words.Statement.{statement}
 use Rattle.report.proofs.verdict_words.Tie as tie
 
@@ -73,10 +72,6 @@ returns c =
 same-length-2 : tie.Need-same-length-2
 same-length-2 c = search needs
 
-second : (tick left right : ℕ) → verdictWords 2 tick left right ≡ refutedAt tick left right
-unfolding verdictWords
-second tick left right = refl
-
 returns-2 : tie.Need-returns-2
 returns-2 c =
     let a = c .before .before .before .before .before .before .before .before .before .before .before .args in
@@ -84,7 +79,7 @@ returns-2 c =
     let tick : c .before .before .before .before .before .number4 .result ≡ tickIn (now (a .verdicts)) (a .k) = c .before .before .before .before .before .number4 .ensures in
     let left : c .before .before .before .before .number8 .result ≡ leftIn (now (a .verdicts)) (a .k) = c .before .before .before .before .number8 .ensures in
     let right : c .before .before .before .number82 .result ≡ rightIn (now (a .verdicts)) (a .k) = c .before .before .before .number82 .ensures in
-    (rw (code, second, ← tick, ← left, ← right) (c .before .before .refuted-at .ensures .0), omega arith)
+    (rw (code, words-refuted, ← tick, ← left, ← right) (c .before .before .refuted-at .ensures .0), omega arith)
 
 same-length-3 : tie.Need-same-length-3
 same-length-3 c = search needs
