@@ -38,7 +38,7 @@ signedOf s = record { plus = s .plus; minus = s .minus }
 
 -- the numbers that an extreme is taken of
 abbrev pub raisedAt : List ℕ → ℕ → ℕ → ℕ → ℕ → ℕ → ℕ
-raisedAt l d c start count i = d * getD l (start + i) 0 + c * (count - i)
+raisedAt l = H.raisedAt (λ n. getD l n 0)
 
 -- what an extreme is taken over: some of the listed values, with factors that are small enough
 pub record Extent (l : List ℕ) (d c start count : ℕ) : Type 0 where

@@ -4,7 +4,7 @@
 --     claim-held                 a claim of curves in their working copies
 --     verdict-given              the verdict on a well-formed claim (orUnjudged)
 --     Runs s book b              what the loop is given: a sound book as it is held, and a buffer with room for its records
---     Written s b out totals k     where it stands after k claims; written-none, written-more, written-all: as it begins, after one more, and at the end
+--     Ran s b out totals k     where it stands after k claims; ran-none, ran-more, ran-all: as it begins, after one more, and at the end
 --     claims-few, countable, sound-countable, length-written     how much is counted and written then
 use Prim.Native.Nat.{ℕ, _+_, _*_, _≤_, _<_}
 use mathlib.Core.Path.{_≡_, refl, sym, ap, subst, _∙_}
@@ -95,7 +95,7 @@ pub verdict-given : (r : Judged) (c : C.Claim) → C.WellFormedClaim c → judge
 verdict-given r c well meets = ap orUnjudged (is-verdict r c well meets)
 
 -- where a run stands after k claims
-pub record Written (s b : List ℕ) (claims curves : ℕ) (places : Places) (out : List ℕ) (totals : Totals) (k : ℕ) : Type 0 where
+pub record Ran (s b : List ℕ) (claims curves : ℕ) (places : Places) (out : List ℕ) (totals : Totals) (k : ℕ) : Type 0 where
   pub contents : Contents
   pub so : readBook s ≡ sound contents
   pub claim-count : claims ≡ length (contents .claims)
@@ -106,10 +106,10 @@ pub record Written (s b : List ℕ) (claims curves : ℕ) (places : Places) (out
   pub counts : totals ≡ totalsTo (codeAt s contents) k
   pub done : k ≤ length (contents .claims)
 
-pub written-none : {s b : List ℕ} {book : Book} → Runs s book b
-    → Written s b (book .claims) (book .curves) (book .places) b (record { accepted = 0; refuted = 0; unjudged = 0 }) 0
+pub ran-none : {s b : List ℕ} {book : Book} → Runs s book b
+    → Ran s b (book .claims) (book .curves) (book .places) b (record { accepted = 0; refuted = 0; unjudged = 0 }) 0
 unfolding recordsTo totalsTo
-written-none {s} {b} {book} runs = record {
+ran-none {s} {b} {book} runs = record {
   contents = runs .contents;
   so = runs .so;
   claim-count = ap (λ (x : Book). x .claims) (runs .held);
@@ -122,7 +122,7 @@ written-none {s} {b} {book} runs = record {
 }
 
 module _ {s b : List ℕ} {claims curves : ℕ} {places : Places} {out : List ℕ} {totals : Totals} {k : ℕ}
-    (written : Written s b claims curves places out totals k) where
+    (written : Ran s b claims curves places out totals k) where
   abbrev c : Contents
   c = written .contents
 
@@ -167,10 +167,10 @@ module _ {s b : List ℕ} {claims curves : ℕ} {places : Places} {out : List �
     pub record-room : recordSize * k + recordSize ≤ length out
     record-room = omega (arith, length-written, written .room, here)
 
-    pub written-more : {out′ : List ℕ} {totals′ : Totals} (r : Record) → r ≡ recordOf (verdictIn s (places .curves) curves (getD (places .claims) k 0))
+    pub ran-more : {out′ : List ℕ} {totals′ : Totals} (r : Record) → r ≡ recordOf (verdictIn s (places .curves) curves (getD (places .claims) k 0))
         → out′ ≡ put out (recordSize * k) (recordBytes r) → totals′ ≡ counted totals (r .code)
-        → Written s b claims curves places out′ totals′ (k + 1)
-    written-more r e e′ e″ =
+        → Ran s b claims curves places out′ totals′ (k + 1)
+    ran-more r e e′ e″ =
         let is : r ≡ recordAt s c k = e ∙ ap recordOf verdict-is in
         record {
           contents = c;
@@ -189,10 +189,10 @@ module _ {s b : List ℕ} {claims curves : ℕ} {places : Places} {out : List �
           done = omega (arith, here);
         }
 
-pub written-all : {s b : List ℕ} {claims curves : ℕ} {places : Places} {out : List ℕ} {totals : Totals} {k : ℕ} → Written s b claims curves places out totals k → claims ≤ k
+pub ran-all : {s b : List ℕ} {claims curves : ℕ} {places : Places} {out : List ℕ} {totals : Totals} {k : ℕ} → Ran s b claims curves places out totals k → claims ≤ k
     → (totals ≡ totalsOn s (readBook s)) × (out ≡ bufferOn s b (readBook s))
 unfolding totalsOn bufferOn
-written-all {s} {b} {k = k} written all =
+ran-all {s} {b} {k = k} written all =
     let c = written .contents in
     let last : k ≡ length (c .claims) = omega (arith, all, written .claim-count, written .done) in
     (rw (written .so) (rw last at (written .counts)), rw (written .so) (rw last at (written .records)))

@@ -5,7 +5,7 @@
 --     pastSpace s i        the place after a space at i
 --     numberFrom n s i     the digits of s from i on, after the number n (withDigit), and the place after them
 --     place-end, place-here, place-on          placeFrom, by what stands at i
---     number-end, number-low, number-high, number-on       numberFrom, likewise
+--     number-end, number-low, number-high, number-more       numberFrom, likewise
 use Prim.Native.Nat.{ℕ, suc, _+_, _-_, _*_, _≤_, _<_, min}
 use mathlib.Core.Path.{_≡_}
 use mathlib.Core.Bool.{true, false}
@@ -77,7 +77,7 @@ module _ (n : ℕ) (s : List ℕ) (i : ℕ) where
   unfolding numberFrom
   number-high lt high = rw (drop-cons s i 0 lt, le-leb 48 (getD s i 0) (omega arith), lt-leb _ _ high, numberIn)
 
-  pub number-on : i < length s → 48 ≤ getD s i 0 → getD s i 0 ≤ 57
+  pub number-more : i < length s → 48 ≤ getD s i 0 → getD s i 0 ≤ 57
       → numberFrom n s i ≡ numberFrom (withDigit n (getD s i 0 - 48)) s (i + 1)
   unfolding numberFrom
-  number-on lt low high = rw (drop-cons s i 0 lt, le-leb _ _ low, le-leb _ _ high, numberIn, add-one i)
+  number-more lt low high = rw (drop-cons s i 0 lt, le-leb _ _ low, le-leb _ _ high, numberIn, add-one i)

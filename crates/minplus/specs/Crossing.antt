@@ -14,7 +14,7 @@ use native.Mathlib.Omega.{arith}
 use native.Mathlib.Nat.{sub-add-cancel, add-sub-of-le, div-lt-iff-lt-mul, mul-le-mul-left, le-antisymm, le-refl}
 use Rattle.minplus.specs.Search.{greatest, least, greatest-upper, least-lower, greatest-attained, least-attained}
 use Rattle.minplus.specs.Curve.{Curve, value}
-use Rattle.minplus.specs.Horizon.{Signed, extremeOf, highest, lowest, earliest, roundedUp, crossing, begunAt, minimumN, convolutionN, _increasedBy_}
+use Rattle.minplus.specs.Horizon.{Signed, raisedAt, extremeOf, highest, lowest, earliest, roundedUp, crossing, begunAt, minimumN, convolutionN, _increasedBy_}
 
 abbrev pub In : ℕ → ℕ → Type 0
 In start count = (t : ℕ) × (start ≤ t) × (t < start + count)
@@ -53,8 +53,9 @@ record Least (I : Type 0) (p q : I → ℕ) (B : Signed) : Type 0 where
 -- ---- the extremes of d*f(t) - c*t
 
 module _ (f : ℕ → ℕ) (d c start count : ℕ) where
+  -- raisedAt, kept shut for omega
   term : ℕ → ℕ
-  term i = d * f (start + i) + c * (count - i)
+  term = raisedAt f d c start count
 
   -- a term with what it is raised by
   raised : (x r i : ℕ) → r + i ≡ count → x + c * r + c * (start + i) ≡ x + c * (start + count)

@@ -27,7 +27,7 @@ use Rattle.minplus.specs.Horizon.{commonPeriod, fullPeriod, horizon, las
 use Rattle.minplus.specs.Meaning.{Loose, Meaning, Proper, Rule, Tight}
 use Rattle.minplus.specs.Ranks.{common-positive, gainOver, gain-le, gain-lt, left-gains, rank-gains, right-gains}
 use Rattle.minplus.specs.Search.{IsFirst, first-at, first-below, first-nowhere, firstBelow, nowhere, somewhere, true-unless, false-unless}
-use Rattle.minplus.specs.Verdict.{Verdict, accepted, breaks, byRate, firstBreak, inOrder, leftAt, lessHolds, notJudged, notLeast, refutedAt, refutedByRate, rightAt, tried, verdict}
+use Rattle.minplus.specs.Verdict.{Verdict, accepted, breaks, byRate, firstBreak, codesInOrder, leftAt, lessHolds, notJudged, notLeast, refutedAt, refutedByRate, rightAt, tried, verdict}
 
 -- ---- a tick's test
 
@@ -160,7 +160,7 @@ unfolding verdict
 verdict-means c p = go (ltb maxHorizon (horizon c)) refl (firstBreak c) (break-found c) (byRate c) refl (lessHolds c) (less-means c p)
   where
     go : (far : Bool) → ltb maxHorizon (horizon c) ≡ far → (o : Option ℕ) → Found c o → (rate : Bool) → byRate c ≡ rate
-        → (less : Bool) → (byRate c ≡ false → LessMeans c less) → Meaning c (inOrder c far o rate less)
+        → (less : Bool) → (byRate c ≡ false → LessMeans c less) → Meaning c (codesInOrder c far o rate less)
     go true e o w rate q less m = ltb-true maxHorizon (horizon c) e
     go false e (some _) (broken n lt before here) rate q less m = (ltb-false maxHorizon (horizon c) e, lt, before, here, refl, refl)
     go false e none (unbroken all) true q less m = (ltb-false maxHorizon (horizon c) e, all, rate-outpaced c p q)

@@ -7,7 +7,7 @@
 --     commonPeriod           D
 --     slower, byRates        rates compared by cross products, and a rank for each of the three ways that they can stand
 --     Signed, increasedBy    plus less minus
---     extremeOf              the greatest or the least d*f(t) - c*t over some ticks t
+--     extremeOf              the greatest or the least d*f(t) - c*t over some ticks t; raisedAt: one of them, raised
 --     highest, lowest, earliest     the A, the B and the last list's least value of document 01; begunAt: what A is increased by
 --     roundedUp, crossing    x/y rounded up; N from A and B
 --     minimumN, convolutionN N where f is the slower one; Crossing.antt pins both without shifts
@@ -43,12 +43,15 @@ infixl 60 _increasedBy_
 abbrev pub _increasedBy_ : Signed → Signed → Signed
 a increasedBy b = record { plus = a .plus + b .plus; minus = a .minus + b .minus }
 
--- the least or the greatest d*f(t) - c*t over start <= t < start + count, where count > 0. Each is raised by c*(start + count),
--- so that none is below 0, and so is what is subtracted from it
+-- d*f(t) - c*t for t = start + i, raised by c*(start + count), so that it is not below 0
+abbrev pub raisedAt : (ℕ → ℕ) → ℕ → ℕ → ℕ → ℕ → ℕ → ℕ
+raisedAt f d c start count i = d * f (start + i) + c * (count - i)
+
+-- the least or the greatest d*f(t) - c*t over start <= t < start + count, where count > 0. What each is raised by is subtracted again
 unfoldable pub extremeOf : (ℕ → ℕ → ℕ) → (ℕ → ℕ) → ℕ → ℕ → ℕ → ℕ → Signed
 unfolding best
 extremeOf choose f d c start count = record {
-  plus = best choose (λ i. d * f (start + i) + c * (count - i)) (count - 1);
+  plus = best choose (raisedAt f d c start count) (count - 1);
   minus = c * (start + count);
 }
 

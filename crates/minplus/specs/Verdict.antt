@@ -6,7 +6,7 @@
 --     leftAt, rightAt       the two values that the record of a refuted tick holds
 --     breaks, tried         whether a tick breaks the rule; how many ticks, from 0 on, are tried; firstBreak: the first of them that does
 --     byRate, lessHolds     the tests of codes 3 and 4
---     inOrder, verdict      the codes in their order
+--     codesInOrder, verdict      the codes in their order
 use Prim.Native.Nat.{ℕ, suc, _-_}
 use mathlib.Core.Bool.{Bool, true, false, not}
 use mathlib.Core.Option.{Option, none, some}
@@ -79,18 +79,18 @@ lessHolds (bounds δ exactly f g X) =
     elim (ltb 0 X) [ true ↦ elim (firstBreak (bounds δ exactly f g (X - 1))) [ none ↦ true | some _ ↦ false ] | false ↦ false ]
 
 -- "Tried in this order, a later one only if the earlier doesn't apply": too far, the first break, by rate, less holds too
-unfoldable pub inOrder : Claim → Bool → Option ℕ → Bool → Bool → Verdict
+unfoldable pub codesInOrder : Claim → Bool → Option ℕ → Bool → Bool → Verdict
 unfolding leftAt rightAt
-inOrder c true o rate less = notJudged
-inOrder c false (some n) rate less = refutedAt n (leftAt c n) (rightAt c n)
-inOrder c false none true less = refutedByRate
-inOrder c false none false true = notLeast
-inOrder c false none false false = accepted
+codesInOrder c true o rate less = notJudged
+codesInOrder c false (some n) rate less = refutedAt n (leftAt c n) (rightAt c n)
+codesInOrder c false none true less = refutedByRate
+codesInOrder c false none false true = notLeast
+codesInOrder c false none false false = accepted
 
 -- each `let` is computed only where a code before it has not decided
 unfoldable pub verdict : Claim → Verdict
-unfolding inOrder horizon firstBreak byRate lessHolds
+unfolding codesInOrder horizon firstBreak byRate lessHolds
 verdict c =
     let at = firstBreak c in
     let less = lessHolds c in
-    inOrder c (ltb maxHorizon (horizon c)) at (byRate c) less
+    codesInOrder c (ltb maxHorizon (horizon c)) at (byRate c) less

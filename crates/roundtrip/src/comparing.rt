@@ -56,7 +56,7 @@ fn same_values(f: &[u32], g: &[u32]) -> bool {
         }
         n += 1;
     }
-    true
+    f.len() == g.len()
 }
 
 // What is held from T+d on is 0 in both.

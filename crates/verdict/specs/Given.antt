@@ -15,7 +15,7 @@ use borrow.Author.Tests.{lt-ltb, le-ltb}
 use Rattle.minplus.specs.Claim.{Claim, wellFormedClaim}
 use Rattle.minplus.specs.Horizon.{horizon, maxHorizon}
 use Rattle.minplus.specs.Verdict as C
-use Rattle.minplus.specs.Verdict.{accepted, byRate, firstBreak, inOrder, leftAt, lessHolds, notJudged, notLeast, refutedAt, refutedByRate, rightAt, verdict}
+use Rattle.minplus.specs.Verdict.{accepted, byRate, firstBreak, codesInOrder, leftAt, lessHolds, notJudged, notLeast, refutedAt, refutedByRate, rightAt, verdict}
 use Rattle.verdict.specs.declared.Verdict.{Verdict}
 use Rattle.verdict.specs.declared.Verdict.the-variants.{Accepted, RefutedAt, RefutedByRate, NotLeast, NotJudged}
 use Rattle.verdict.specs.declared.Judged.{Judged}
@@ -88,7 +88,7 @@ unfolding verdict foundOf firstBreak
 verdict-near {c} j found rate less e e′ e″ =
     rw (le-ltb maxHorizon (horizon c) (omega (arith, j .is-horizon, j .within)), e, e′, e″) (go (firstBreak c) (byRate c) (lessHolds c))
   where
-    go : (o : Option ℕ) (rate less : Bool) → ordered (foundFrom (leftAt c) (rightAt c) o) rate less ≡ inOrder c false o rate less
+    go : (o : Option ℕ) (rate less : Bool) → ordered (foundFrom (leftAt c) (rightAt c) o) rate less ≡ codesInOrder c false o rate less
     go (some n) rate less = refl
     go none true less = refl
     go none false true = refl

@@ -2,7 +2,7 @@
 --
 --     Desk             where the writing of a book stands: the writer, the lent bytes, and what the calls that were taken have said (entered, enteredOn)
 --     step, afterCalls     one call (step-refused, step-taken) and a list of them, by Writing's `called` and `written`; opened, reached: from a writer that has not begun
---     textIn           the bytes before the writer's place; Says: they are a sound book that says this
+--     textIn           the bytes before the writer's place; BookSays: they are a sound book that says this
 --     AllTaken         no call of the list is refused
 --     callsFor         the calls that write a book: begin, each curve, each claim, close
 --     Stage            what is written and what is said go together: nothing yet, a book without its end, a book
@@ -91,8 +91,8 @@ reached s calls = afterCalls (opened s) calls
 abbrev pub textIn : Desk → List ℕ
 textIn d = take (d .writer .state .place) (d .buffer)
 
-abbrev pub Says : List ℕ → Listing → Type 0
-Says text b = (c : Contents) × (readBook text ≡ sound c) × (listingIn text c ≡ b)
+abbrev pub BookSays : List ℕ → Listing → Type 0
+BookSays text b = (c : Contents) × (readBook text ≡ sound c) × (listingIn text c ≡ b)
 
 unfoldable pub AllTaken : Desk → List Call → Type 0
 unfolding step
@@ -263,10 +263,10 @@ any-calls s calls = laid-written (laid-reached s calls)
 
 -- ---- and so
 
-stage-sound : {b : Listing} {text : List ℕ} → Stage true b text → Says text b
+stage-sound : {b : Listing} {text : List ℕ} → Stage true b text → BookSays text b
 stage-sound (finished {b} w) = written-read b w
 
-stage-ends : {b : Listing} {text : List ℕ} → Stage false b text → ¬ (b .version ≡ 0) → Says (text ++ fieldBytes tag.End []) b
+stage-ends : {b : Listing} {text : List ℕ} → Stage false b text → ¬ (b .version ≡ 0) → BookSays (text ++ fieldBytes tag.End []) b
 unfolding bookBytes
 stage-ends untouched some = absurd (some refl)
 stage-ends (unfinished {b} w) some = written-read b w
@@ -278,12 +278,12 @@ module _ (s : List ℕ) (calls : List Call) where
   abbrev so : Written s d
   so = any-calls s calls
 
-  pub closed-sound : reached s calls .writer .closed ≡ true → Says (textIn (reached s calls)) (reached s calls .listing)
+  pub closed-sound : reached s calls .writer .closed ≡ true → BookSays (textIn (reached s calls)) (reached s calls .listing)
   closed-sound e = stage-sound (subst (λ (x : Bool). Stage x (d .listing) (textIn d)) e (so .stage))
 
   -- where something was begun
   pub open-ends : reached s calls .writer .closed ≡ false → ¬ (reached s calls .writer .state .version ≡ 0)
-      → Says (textIn (reached s calls) ++ fieldBytes tag.End []) (reached s calls .listing)
+      → BookSays (textIn (reached s calls) ++ fieldBytes tag.End []) (reached s calls .listing)
   open-ends e some =
       stage-ends (subst (λ (x : Bool). Stage x (d .listing) (textIn d)) e (so .stage)) (λ none. some (ap (λ (w : Writer). w .state .version) (so .writer-is) ∙ none))
 
@@ -380,9 +380,9 @@ module _ (s : List ℕ) (b : Listing) (w : WellListed b) (room : length (bookByt
       × (reached s (callsFor b) ≡ record { writer = standing true b (bookBytes b); buffer = put s 0 (bookBytes b); listing = b })
   calls-write = let g = subst (λ (d : Desk). Goes s end d (callsFor b)) (laid-nothing s) goes-all in (g .taken, g .to)
 
-  pub written-and-read : Says (take (length (bookBytes b)) (reached s (callsFor b) .buffer)) b
+  pub written-and-read : BookSays (take (length (bookBytes b)) (reached s (callsFor b) .buffer)) b
   written-and-read =
-      subst (λ (t : List ℕ). Says t b) (sym (ap (λ (d : Desk). take (length (bookBytes b)) (d .buffer)) (calls-write .1) ∙ take-laid s (bookBytes b))) (written-read b w)
+      subst (λ (t : List ℕ). BookSays t b) (sym (ap (λ (d : Desk). take (length (bookBytes b)) (d .buffer)) (calls-write .1) ∙ take-laid s (bookBytes b))) (written-read b w)
 
 pub read-and-written : (s : List ℕ) (c : Contents) → Bytes s → readBook s ≡ sound c → (buffer : List ℕ) → length s ≤ length buffer
     → reached buffer (callsFor (listingIn s c)) .buffer ≡ put buffer 0 s

@@ -22,7 +22,7 @@ use Rattle.book.specs.RoundTrip.{w8-listing}
 use Rattle.writer.specs.declared.Writer.{Writer}
 use Rattle.writer.specs.declared.Called.{Called}
 use Rattle.writer.specs.Writing.{Call, callFault, called, written, call-refused, call-taken}
-use Rattle.writer.specs.Sequence.{Desk, step, afterCalls, opened, reached, Says, Stage, untouched, unfinished, finished, Written, any-calls, closed-sound, callsFor}
+use Rattle.writer.specs.Sequence.{Desk, step, afterCalls, opened, reached, BookSays, Stage, untouched, unfinished, finished, Written, any-calls, closed-sound, callsFor}
 use Rattle.zurmakida.specs.States.{writerOf, answered, answeredOn, Kept, state-back, fresh-back}
 
 pub record Held : Type 0 where
@@ -95,12 +95,12 @@ module _ (s : List ℕ) where
 
   -- "after close is a sound book": the state says how many bytes it has
   pub closed-book : (calls : List Call) → writerOf (heldFrom s calls .state) .closed ≡ true
-      → Says (take (heldFrom s calls .state % 2 ^ 16) (heldFrom s calls .buffer)) (reached s calls .listing)
+      → BookSays (take (heldFrom s calls .state % 2 ^ 16) (heldFrom s calls .buffer)) (reached s calls .listing)
   unfolding writerOf
   closed-book calls closed =
       let told = state-calls calls in
       let text = ap₂ take (ap (λ (w : Writer). w .state .place) (told .0)) (told .1) in
-      subst (λ (t : List ℕ). Says t (reached s calls .listing)) (sym text) (closed-sound s calls (sym (ap (λ (w : Writer). w .closed) (told .0)) ∙ closed))
+      subst (λ (t : List ℕ). BookSays t (reached s calls .listing)) (sym text) (closed-sound s calls (sym (ap (λ (w : Writer). w .closed) (told .0)) ∙ closed))
 
 pub w8-held : heldFrom (replicate 60 0) (callsFor w8-listing) .state ≡ 59 + 2 ^ 16 * 1 + 2 ^ 32 * 2 + 2 ^ 40 * 1 + 2 ^ 47
 unfolding heldAfter callsFor w8-listing kindBy bytesOf

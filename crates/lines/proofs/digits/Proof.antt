@@ -2,7 +2,7 @@ use Prim.Native.Nat.{_-_}
 use mathlib.Core.Path.{_≡_, refl, sym, _∙_}
 use native.Mathlib.Omega.{arith}
 use lib.ListN.{length}
-use Rattle.lines.specs.Parts.{numberFrom, number-end, number-low, number-high, number-on}
+use Rattle.lines.specs.Parts.{numberFrom, number-end, number-low, number-high, number-more}
 use Rattle.lines.proofs.digits.Statement.{statement}
 use Rattle.lines.proofs.digits.Tie as tie
 
@@ -28,7 +28,7 @@ loop-less : tie.Need-loop-less Inv-loop μ-loop
 loop-less c = omega arith
 
 loop-again : tie.Need-loop-again Inv-loop μ-loop
-loop-again c = rw (c .with-digit .ensures) (sym (number-on _ _ _ (omega arith) (omega arith) (omega arith)) ∙ c .before .before .before .before .before .loop .inv)
+loop-again c = rw (c .with-digit .ensures) (sym (number-more _ _ _ (omega arith) (omega arith) (omega arith)) ∙ c .before .before .before .before .before .loop .inv)
 
 returns : tie.Need-returns Inv-loop μ-loop
 returns c = sym (number-end _ _ _ (omega arith)) ∙ c .before .loop .inv

@@ -1,18 +1,18 @@
 use Prim.Native.Nat.{_-_}
 use native.Mathlib.Omega.{arith}
-use Rattle.judge.specs.Held.{Written, claims-few, countable, length-written, stands-held, record-room, written-none, written-more, written-all}
+use Rattle.judge.specs.Held.{Ran, claims-few, countable, length-written, stands-held, record-room, ran-none, ran-more, ran-all}
 use borrow.Author.Needs.{needs}
 use Rattle.judge.proofs.records.run.Statement.{statement}
 use Rattle.judge.proofs.records.run.Tie as tie
 
 abbrev Inv-loop : tie.InvT-loop
-Inv-loop book verdicts₀ claims curves places totals₀ k₀ verdicts totals k = Written book verdicts₀ claims curves places verdicts totals k
+Inv-loop book verdicts₀ claims curves places totals₀ k₀ verdicts totals k = Ran book verdicts₀ claims curves places verdicts totals k
 
 abbrev μ-loop : tie.MeasureT-loop
 μ-loop book verdicts₀ claims curves places totals₀ k₀ verdicts totals k = claims - k
 
 loop-holds : tie.Need-loop-holds Inv-loop μ-loop
-loop-holds c = written-none (c .before .before .before .pre)
+loop-holds c = ran-none (c .before .before .before .pre)
 
 mul-place : tie.Need-mul-place Inv-loop μ-loop
 mul-place c = omega (arith, claims-few (c .before .loop .inv))
@@ -48,13 +48,13 @@ loop-less : tie.Need-loop-less Inv-loop μ-loop
 loop-less c = omega arith
 
 loop-again : tie.Need-loop-again Inv-loop μ-loop
-loop-again c = written-more (c .before .before .before .before .before .before .before .before .before .before .before .before .before .loop .inv) (c .before .before .before .before .before .before .before .before .before .before .before .before .loop-test .taken) _ (c .before .before .before .before .before .before .before .before .before .before .record-at .ensures) (c .before .before .before .put-record .ensures) (c .counted .ensures)
+loop-again c = ran-more (c .before .before .before .before .before .before .before .before .before .before .before .before .before .loop .inv) (c .before .before .before .before .before .before .before .before .before .before .before .before .loop-test .taken) _ (c .before .before .before .before .before .before .before .before .before .before .record-at .ensures) (c .before .before .before .put-record .ensures) (c .counted .ensures)
 
 same-length : tie.Need-same-length Inv-loop μ-loop
 same-length c = length-written (c .before .loop .inv)
 
 returns : tie.Need-returns Inv-loop μ-loop
-returns c = written-all (c .before .loop .inv) (omega arith)
+returns c = ran-all (c .before .loop .inv) (omega arith)
 
 pub run-spec : {M : Type 1} → statement M
 run-spec =
