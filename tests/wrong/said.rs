@@ -18,8 +18,8 @@ pub struct Said {
     pub functions: BTreeMap<String, Status>,
     /// A function's proof file, and the need that is refused in it.
     pub refused: Vec<(String, String)>,
-    /// The first error of the compiler, for a change that does not get so far.
-    pub uncompiled: String,
+    /// The first error of the compiler, or else the last line, for a change that does not get so far.
+    pub unjudged: String,
 }
 
 /// The words between backquotes.
@@ -52,12 +52,12 @@ fn status_of(text: &str) -> Status {
 }
 
 pub fn read(name: &str, text: &str) -> Said {
-    let mut said = Said { judged: false, functions: BTreeMap::new(), refused: Vec::new(), uncompiled: String::new() };
+    let mut said = Said { judged: false, functions: BTreeMap::new(), refused: Vec::new(), unjudged: String::new() };
     let own = format!("fn {name}::");
     for line in text.lines() {
         if let Some((_, message)) = line.split_once(": error[") {
-            if said.uncompiled.is_empty() {
-                said.uncompiled = format!("error[{message}");
+            if said.unjudged.is_empty() {
+                said.unjudged = format!("error[{message}");
             }
         } else if let Some((place, message)) = line.split_once(": error: ") {
             let function = place.split(':').next().and_then(function_of);
@@ -70,6 +70,9 @@ pub fn read(name: &str, text: &str) -> Said {
         } else if line.starts_with("logic=") {
             said.judged = true;
         }
+    }
+    if said.unjudged.is_empty() {
+        said.unjudged = text.lines().last().unwrap_or("").to_string();
     }
     said
 }

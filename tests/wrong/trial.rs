@@ -67,14 +67,14 @@ pub fn batch(copy: &Path, name: &str, functions: &[Function], batch: &[&Wrong]) 
     }
     let mut said = check(copy, name, functions, &tried)?;
     if !said.judged {
-        // one of them does not compile: each by itself tells which, and the others are tried without it
+        // some of them do not compile: each by itself tells which, and the others are tried without them
         let mut compile = Vec::new();
         for wrong in tried {
             let alone = check(copy, name, functions, &[wrong])?;
             if alone.judged {
                 compile.push(wrong);
             } else {
-                failed.push(format!("{}: it does not compile: {}", wrong.name, alone.uncompiled));
+                failed.push(format!("{}: it does not get as far as the prover: {}", wrong.name, alone.unjudged));
             }
         }
         tried = compile;
