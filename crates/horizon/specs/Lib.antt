@@ -1,3 +1,2 @@
--- The horizon as the code reaches it, and a claim's limits as it tests them.
-pub mod Told
+-- The horizon as the code reaches it.
 pub mod Reach

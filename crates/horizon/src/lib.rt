@@ -10,14 +10,13 @@ ghost use Rattle.horizon.specs.Reach.{far, evenRank, horizonAnswer};
 use crate::crossing::larger;
 use crate::crossing::n_by_rates;
 use crate::divisor::common_multiple;
-use crate::form::well_formed_claim;
 use curve::Claim;
 use curve::Curve;
 use curve::Operation;
+use limits::well_formed_claim;
 
 mod crossing;
 mod divisor;
-mod form;
 
 pub enum Horizon {
     // More ticks than `Ticks` holds: two rates that nearly agree cross late.

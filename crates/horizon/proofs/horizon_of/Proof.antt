@@ -1,10 +1,9 @@
 use mathlib.Core.Path.{_≡_, sym, ap, _∙_}
 use borrow.Author.Tests.{not-true, not-false}
-use Rattle.minplus.specs.Claim.{Claim, WellFormedClaim, wellFormedClaim, well-formed-claim}
+use Rattle.minplus.specs.Claim.{Claim, WellFormedClaim, well-formed-claim}
 use Rattle.minplus.specs.Horizon.{horizon}
 use Rattle.horizon.specs.declared.Horizon.the-variants.{At}
 use Rattle.curve.specs.Claimed.{claimOf, two-well}
-use Rattle.horizon.specs.Told.{told-yes, told-test}
 use Rattle.horizon.specs.Reach.{horizonAnswer, horizon-none, horizon-at}
 use borrow.Author.Needs.{needs}
 use Rattle.horizon.proofs.horizon_of.Statement.{statement}
@@ -16,14 +15,14 @@ well-formed-claim-requires c κs = search needs
 returns : tie.Need-returns
 returns c =
     let k = claimOf (c .before .before .args .claim) (c .before .before .args .f) (c .before .before .args .g) (c .before .before .args .h) in
-    sym (horizon-none k (sym (told-test (wellFormedClaim k) (well-formed-claim k) (c .before .well-formed-claim .ensures)) ∙ not-true _ (c .if1 .taken)))
+    sym (horizon-none k (sym (c .before .well-formed-claim .ensures) ∙ not-true _ (c .if1 .taken)))
 
 -- past the test
 abbrev claim : tie.Else1 → Claim
 claim c = let a = c .before .before .args in claimOf (a .claim) (a .f) (a .g) (a .h)
 
 well : (c : tie.Else1) → WellFormedClaim (claim c)
-well c = told-yes (c .before .well-formed-claim .ensures) (not-false _ (c .if1 .left))
+well c = well-formed-claim (claim c) .0 (sym (c .before .well-formed-claim .ensures) ∙ not-false _ (c .if1 .left))
 
 at-claim : (c : tie.Else1) → horizonAnswer (claim c) ≡ At (horizon (claim c))
 at-claim c = horizon-at (claim c) (well-formed-claim (claim c) .1 (well c))

@@ -1,9 +1,9 @@
 use native.Mathlib.Omega.{arith}
 use Rattle.curve.specs.Held.{listed-held, held-listed}
-use Rattle.horizon.specs.Told.{no, told-map}
+use Rattle.limits.specs.Told.{no, told-map}
 use borrow.Author.Needs.{needs}
-use Rattle.horizon.proofs.form.well_formed.Statement.{statement}
-use Rattle.horizon.proofs.form.well_formed.Tie as tie
+use Rattle.limits.proofs.well_formed.Statement.{statement}
+use Rattle.limits.proofs.well_formed.Tie as tie
 
 cast-count : tie.Need-cast-count
 cast-count c = search needs

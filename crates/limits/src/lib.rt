@@ -1,11 +1,12 @@
 // Whether a curve and a claim keep document 01's limits.
 ghost use Prim.Native.Nat.{_≤_};
+ghost use mathlib.Core.Path.{_≡_};
 ghost use lib.ListN.{length};
 ghost use Rattle.minplus.specs.Curve.{WellFormed};
-ghost use Rattle.minplus.specs.Claim.{WellFormedClaim, maxX};
+ghost use Rattle.minplus.specs.Claim.{wellFormedClaim, maxX};
 ghost use Rattle.curve.specs.Held.{curveOf, Listed};
 ghost use Rattle.curve.specs.Claimed.{claimOf, amountOf};
-ghost use Rattle.horizon.specs.Told.{Told};
+ghost use Rattle.limits.specs.Told.{Told};
 use curve::Claim;
 use curve::Curve;
 use curve::Deviation;
@@ -56,8 +57,8 @@ fn within(deviation: Deviation) -> bool
 }
 
 // Kinds 4 to 7 have no claimed curve: what stands in its place is not looked at.
-pub(crate) fn well_formed_claim(claim: Claim, f: Curve, g: Curve, h: Curve) -> bool
-    ensures { λ r. ⌜ Told (WellFormedClaim (claimOf claim f g h)) r ⌝ }
+pub fn well_formed_claim(claim: Claim, f: Curve, g: Curve, h: Curve) -> bool
+    ensures { λ r. ⌜ r ≡ wellFormedClaim (claimOf claim f g h) ⌝ }
 {
     if !well_formed(f) {
         return false;

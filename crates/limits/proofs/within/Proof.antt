@@ -1,8 +1,8 @@
 use Rattle.minplus.specs.Claim.{maxX}
-use Rattle.horizon.specs.Told.{told-leb}
+use Rattle.limits.specs.Told.{told-leb}
 use borrow.Author.Needs.{needs}
-use Rattle.horizon.proofs.form.within.Statement.{statement}
-use Rattle.horizon.proofs.form.within.Tie as tie
+use Rattle.limits.proofs.within.Statement.{statement}
+use Rattle.limits.proofs.within.Tie as tie
 
 enum-known-deviation : tie.Need-enum-known-deviation
 enum-known-deviation c = search needs

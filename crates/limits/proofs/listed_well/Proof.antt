@@ -6,9 +6,9 @@ use native.Mathlib.Numerals.{add-one}
 use lib.ListN.{getD}
 use denote.Ref.{now}
 use Rattle.curve.specs.Held.{Listed, listed-none, listed-more}
-use Rattle.horizon.specs.Told.{yes, no}
-use Rattle.horizon.proofs.form.listed_well.Statement.{statement}
-use Rattle.horizon.proofs.form.listed_well.Tie as tie
+use Rattle.limits.specs.Told.{yes, no}
+use Rattle.limits.proofs.listed_well.Statement.{statement}
+use Rattle.limits.proofs.listed_well.Tie as tie
 
 abbrev Inv-loop : tie.InvT-loop
 Inv-loop listed count before₀ n₀ before n =

@@ -1,0 +1,2 @@
+-- A test's answer, and what it tells.
+pub mod Told
