@@ -1,6 +1,7 @@
 //! docs/PROMISES.md names for every public function two wrong programs or more. Each that it names is there, and each function has its row.
 
 use crate::list;
+use crate::said::quoted;
 use crate::source;
 use std::collections::BTreeSet;
 use std::fs;
@@ -16,10 +17,6 @@ fn known(top: &Path, lists: &Path, name: &str) -> BTreeSet<String> {
         names.extend(entry.path().file_stem().and_then(|s| s.to_str()).map(str::to_string));
     }
     names
-}
-
-fn quoted(text: &str) -> Vec<&str> {
-    text.split('`').skip(1).step_by(2).collect()
 }
 
 /// What is wrong with the page's table of wrong answers in the code.

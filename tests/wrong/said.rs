@@ -23,8 +23,8 @@ pub struct Said {
 }
 
 /// The words between backquotes.
-fn quoted(text: &str) -> Vec<String> {
-    text.split('`').skip(1).step_by(2).map(str::to_string).collect()
+pub fn quoted(text: &str) -> Vec<&str> {
+    text.split('`').skip(1).step_by(2).collect()
 }
 
 /// `values::fill` of `proofs/values/fill/Proof.antt`; a function that calls itself has a `+` before its name there.
@@ -33,9 +33,9 @@ fn function_of(file: &str) -> Option<String> {
     Some(folder.replace('/', "::").replace('+', ""))
 }
 
-/// A line of proof that waits for another one, or that the changed code has no place for, shows nothing.
+/// A line of proof that waits for another one, or that names a need or a place that the changed code does not have, shows nothing.
 fn shows_nothing(message: &str) -> bool {
-    message.contains("was not admitted") || message.contains("can be named from here")
+    ["was not admitted", "can be named from here", "has no field"].iter().any(|unfit| message.contains(unfit))
 }
 
 fn status_of(text: &str) -> Status {
@@ -43,7 +43,7 @@ fn status_of(text: &str) -> Status {
     if own == "proved" {
         Status::Proved
     } else if let Some((_, left)) = own.split_once("does not close ") {
-        Status::Left(quoted(left))
+        Status::Left(quoted(left).into_iter().map(str::to_string).collect())
     } else if !calls.is_empty() {
         Status::Called
     } else {
