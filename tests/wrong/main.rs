@@ -4,9 +4,9 @@
 //! said.rs     what the prover said                  trial.rs    a batch of changes in a copy of the tree
 //! promises.rs     what docs/PROMISES.md says of them
 //!
-//! wrong COPY1,COPY2.. LISTS BATCHES CRATE..
-//!   tries the first BATCHES batches (0: all) of each crate's list, LISTS/CRATE.txt, in the copies, one crate at a time in each. A batch has one change in each
-//!   of many functions, and is one run of the prover. The last line counts the wrong programs that were refused as they must be and what failed.
+//! wrong gate|all COPY1,COPY2.. LISTS CRATE..
+//!   tries the wrong programs of each crate's list, LISTS/CRATE.txt, in the copies, one crate at a time in each: all of them, or as many as the gate holds. A batch
+//!   has one change in each of many functions, and is one run of the prover. The last line counts the wrong programs that were refused as they must be and what failed.
 //! wrong promises TOP LISTS CRATE..
 //!   looks for the wrong programs that docs/PROMISES.md names, and for the public functions of the crates in it.
 
@@ -47,11 +47,16 @@ fn uncovered(functions: &[source::Function], list: &list::List) -> Vec<String> {
     missing
 }
 
-/// The k-th change of each function is in the k-th batch.
-fn batches_of(list: &list::List) -> Vec<Vec<&list::Wrong>> {
+/// The k-th change of each function is in the k-th batch. The gate holds the first four of a public function and the first two of any other.
+fn batches_of<'a>(functions: &[source::Function], list: &'a list::List, gate: bool) -> Vec<Vec<&'a list::Wrong>> {
     let mut batches: Vec<Vec<&list::Wrong>> = Vec::new();
     for wrong in &list.wrongs {
-        match batches.iter_mut().find(|batch| batch.iter().all(|w| w.function != wrong.function)) {
+        let public = functions.iter().any(|f| f.public && f.path == wrong.function);
+        let before = batches.iter().filter(|batch| batch.iter().any(|w| w.function == wrong.function)).count();
+        if gate && before >= if public { 4 } else { 2 } {
+            continue;
+        }
+        match batches.get_mut(before) {
             Some(batch) => batch.push(wrong),
             None => batches.push(vec![wrong]),
         }
@@ -59,20 +64,19 @@ fn batches_of(list: &list::List) -> Vec<Vec<&list::Wrong>> {
     batches
 }
 
-fn try_list(copy: &Path, lists: &Path, name: &str, most: usize) -> Result<Tally, String> {
+fn try_list(copy: &Path, lists: &Path, name: &str, gate: bool) -> Result<Tally, String> {
     let text = fs::read_to_string(lists.join(name).with_extension("txt")).map_err(|e| format!("its list can't be read: {e}"))?;
     let list = list::read(&text)?;
     let functions = source::functions(&copy.join("crates").join(name))?;
     let mut failed = uncovered(&functions, &list);
-    let batches = batches_of(&list);
-    let tried = if most == 0 { batches.len() } else { most.min(batches.len()) };
+    let batches = batches_of(&functions, &list, gate);
     let mut refused = 0;
-    for batch in &batches[..tried] {
+    for batch in &batches {
         let (well, badly) = trial::batch(copy, name, &functions, batch)?;
         refused += well;
         failed.extend(badly);
     }
-    Ok(Tally { refused, failed, batches: tried })
+    Ok(Tally { refused, failed, batches: batches.len() })
 }
 
 fn main() -> ExitCode {
@@ -86,14 +90,11 @@ fn main() -> ExitCode {
             return if faults.is_empty() { ExitCode::SUCCESS } else { ExitCode::FAILURE };
         }
     }
-    let [copies, lists, most, crates @ ..] = &words[..] else {
-        eprintln!("usage: wrong COPY1,COPY2.. LISTS BATCHES CRATE..");
+    let [mode, copies, lists, crates @ ..] = &words[..] else {
+        eprintln!("usage: wrong gate|all COPY1,COPY2.. LISTS CRATE.. | promises TOP LISTS CRATE..");
         return ExitCode::from(2);
     };
-    let Ok(most) = most.parse::<usize>() else {
-        eprintln!("BATCHES is a number");
-        return ExitCode::from(2);
-    };
+    let gate = mode == "gate";
     let lists = PathBuf::from(lists);
     // the longest lists first, so that no copy is left with one at the end
     let mut order: Vec<&String> = crates.iter().collect();
@@ -106,7 +107,7 @@ fn main() -> ExitCode {
             scope.spawn(move || loop {
                 let Some(name) = queue.lock().unwrap().pop_front() else { break };
                 let began = Instant::now();
-                let tally = try_list(Path::new(copy), lists, name, most).unwrap_or_else(|why| Tally { refused: 0, failed: vec![why], batches: 0 });
+                let tally = try_list(Path::new(copy), lists, name, gate).unwrap_or_else(|why| Tally { refused: 0, failed: vec![why], batches: 0 });
                 let mut totals = totals.lock().unwrap();
                 totals.0 += tally.refused;
                 totals.1 += tally.failed.len();
