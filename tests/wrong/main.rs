@@ -47,19 +47,17 @@ fn uncovered(functions: &[source::Function], list: &list::List) -> Vec<String> {
     missing
 }
 
-/// The k-th change of each function is in the k-th batch. The gate holds the first four of a public function and the first two of any other.
-fn batches_of<'a>(functions: &[source::Function], list: &'a list::List, gate: bool) -> Vec<Vec<&'a list::Wrong>> {
+/// The k-th change of each function is in the k-th batch. The gate holds the first four.
+fn batches_of(list: &list::List, gate: bool) -> Vec<Vec<&list::Wrong>> {
     let mut batches: Vec<Vec<&list::Wrong>> = Vec::new();
     for wrong in &list.wrongs {
-        let public = functions.iter().any(|f| f.public && f.path == wrong.function);
-        let before = batches.iter().filter(|batch| batch.iter().any(|w| w.function == wrong.function)).count();
-        if gate && before >= if public { 4 } else { 2 } {
-            continue;
-        }
-        match batches.get_mut(before) {
+        match batches.iter_mut().find(|batch| batch.iter().all(|w| w.function != wrong.function)) {
             Some(batch) => batch.push(wrong),
             None => batches.push(vec![wrong]),
         }
+    }
+    if gate {
+        batches.truncate(4);
     }
     batches
 }
@@ -69,7 +67,7 @@ fn try_list(copy: &Path, lists: &Path, name: &str, gate: bool) -> Result<Tally, 
     let list = list::read(&text)?;
     let functions = source::functions(&copy.join("crates").join(name))?;
     let mut failed = uncovered(&functions, &list);
-    let batches = batches_of(&functions, &list, gate);
+    let batches = batches_of(&list, gate);
     let mut refused = 0;
     for batch in &batches {
         let (well, badly) = trial::batch(copy, name, &functions, batch)?;
