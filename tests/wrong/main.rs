@@ -1,12 +1,14 @@
-//! Wrong programs, tried by the dozen: each puts another text into one function, and the prover has to refuse that function at the need that is named for it.
+//! Wrong programs, tried by the dozen: each puts another text into one function, and the prover has to refuse that
+//! function at the need that is named for it.
 //!
 //! list.rs     the lists of wrong programs           source.rs   the functions of a crate, and a changed one
 //! said.rs     what the prover said                  trial.rs    a batch of changes in a copy of the tree
 //! promises.rs     what docs/PROMISES.md says of them
 //!
 //! wrong gate|all COPY1,COPY2.. LISTS CRATE..
-//!   tries the wrong programs of each crate's list, LISTS/CRATE.txt, in the copies, one crate at a time in each: all of them, or as many as the gate holds. A batch
-//!   has one change in each of many functions, and is one run of the prover. The last line counts the wrong programs that were refused as they must be and what failed.
+//!   tries the wrong programs of each crate's list, LISTS/CRATE.txt, in the copies, one crate at a time in each: all of
+//!   them, or as many as the gate holds. A batch has one change in each of many functions, and is one run of the prover.
+//!   The last line counts the wrong programs that were refused as they must be and what failed.
 //! wrong promises TOP LISTS CRATE..
 //!   looks for the wrong programs that docs/PROMISES.md names, and for the public functions of the crates in it.
 

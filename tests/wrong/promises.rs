@@ -1,4 +1,5 @@
-//! docs/PROMISES.md names for every public function two wrong programs or more. Each that it names is there, and each function has its row.
+//! docs/PROMISES.md names for every public function two wrong programs or more. Each that it names is there, and each
+//! function has its row.
 
 use crate::list;
 use crate::said::quoted;
