@@ -7,8 +7,8 @@
 //!
 //! wrong gate|all COPY1,COPY2.. LISTS CRATE..
 //!   tries the wrong programs of each crate's list, LISTS/CRATE.txt, in the copies, one crate at a time in each: all of
-//!   them, or as many as the gate holds. A batch has one change in each of many functions, and is one run of the prover.
-//!   The last line counts the wrong programs that were refused as they must be and what failed.
+//!   them, or as many as the gate holds. A batch has one change in each of many functions, and is one run of the
+//!   prover. The last line counts the wrong programs that were refused as they must be and what failed.
 //! wrong promises TOP LISTS CRATE..
 //!   looks for the wrong programs that docs/PROMISES.md names, and for the public functions of the crates in it.
 

@@ -32,8 +32,8 @@ fn function_of(file: &str) -> Option<String> {
     Some(folder.replace('/', "::").replace('+', ""))
 }
 
-/// A line of proof that waits for another one, or that names a need or a place that the changed code does not have, shows
-/// nothing.
+/// A line of proof that waits for another one, or that names a need or a place that the changed code does not have,
+/// shows nothing.
 fn shows_nothing(message: &str) -> bool {
     ["was not admitted", "can be named from here", "has no field"].iter().any(|unfit| message.contains(unfit))
 }

@@ -1,10 +1,12 @@
 -- What the code holds of a book that it reads.
 --
 --     placesOf, bookOf     the places in arrays, and the book with them (held-book)
---     readingOf        the answer as the code's struct: a refused book holds nothing; passedUp, outcomeOf: from a field's answer
+--     readingOf        the answer as the code's struct: a refused book holds nothing; passedUp, outcomeOf: from a
+--                      field's answer
 --     read-refused, read-sound     what the answer's outcome tells of the book
 --     noted            the places with one more field; Notable: there is room, and it fits 16 bits
---     Reads            a reader stands at a state of a book: reads-start; reads-refused, reads-end, reads-more: by the next field's answer
+--     Reads            a reader stands at a state of a book: reads-start; reads-refused, reads-end, reads-more: by the
+--                      next field's answer
 use Prim.Native.Nat.{ℕ, zero, suc, _+_, _≤_, _<_}
 use mathlib.Core.Path.{_≡_, refl, sym, ap, _∙_}
 use mathlib.Core.Bool.{false}

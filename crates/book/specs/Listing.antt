@@ -1,9 +1,11 @@
--- What a book says, as values, and the bytes that say it. Document 01, 'The book': "Order: version, curves, claims, end."
+-- What a book says, as values, and the bytes that say it. Document 01, 'The book': "Order: version, curves, claims,
+-- end."
 --
 --     Listing, listed            a version, curves and claims
 --     curveFields, claimFields   one field after the other (fieldsOf)
 --     openBytes, bookBytes       a book without its end, and with it
---     begun, withCurve, withClaim     nothing but a version, and one more: its field stands after those before it (open-begun, open-curve, open-claim)
+--     begun, withCurve, withClaim     nothing but a version, and one more: its field stands after those before it
+--                                     (open-begun, open-curve, open-claim)
 --     WellListed                 within document 01's limits: well-begun, well-curve, well-claim
 --     listingIn                  what a book says that holds such contents (curveAt, claimAt)
 --     length-book                a book is never too long; bytes-book: and it is bytes

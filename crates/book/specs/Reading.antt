@@ -1,4 +1,5 @@
--- The whole book. Document 01, 'Refusal numbers': "First, 15: the book is over 32,768 bytes (place 0). Then field by field".
+-- The whole book. Document 01, 'Refusal numbers': "First, 15: the book is over 32,768 bytes (place 0). Then field by
+-- field".
 --
 --     Contents         a sound book: its version, and at which byte the field of each curve and each claim begins
 --     Read             what any list of bytes is
@@ -32,7 +33,8 @@ maxBytes = 32_768
 abbrev pub start : State
 start = record { version = 0; curves = 0; claims = 0; place = 0 }
 
--- a field's answer, with how the book is read on from a state. The lists are the places of the curves and of the claims before the field
+-- a field's answer, with how the book is read on from a state. The lists are the places of the curves and of the claims
+-- before the field
 abbrev pub readOn : (State → List ℕ → List ℕ → Read) → Field → State → List ℕ → List ℕ → Read
 readOn on (field.Refused x p) st curves claims = refused x p
 readOn on (field.Taken tag.Version next) st curves claims = on next curves claims
@@ -40,7 +42,8 @@ readOn on (field.Taken tag.Curve next) st curves claims = on next (curves ++ (st
 readOn on (field.Taken tag.Claim next) st curves claims = on next curves (claims ++ (st .place ∷ []))
 readOn on (field.Taken tag.End next) st curves claims = sound (record { version = st .version; curves = curves; claims = claims })
 
--- field by field. A field has three bytes or more, so that as many steps as there are bytes left are enough (read-steps)
+-- field by field. A field has three bytes or more, so that as many steps as there are bytes left are enough
+-- (read-steps)
 unfoldable pub readFrom : ℕ → List ℕ → State → List ℕ → List ℕ → Read
 unfolding stepAt
 readFrom zero s st curves claims = refused Torn (st .place)

@@ -1,10 +1,13 @@
 -- Reading and writing a book undo each other, over document 01's layout.
 --
---     Reached          a reader has read what is listed, and these bytes are left: reached-start, reached-version, reached-curve, reached-claim, reached-end
+--     Reached          a reader has read what is listed, and these bytes are left: reached-start, reached-version,
+--                      reached-curve, reached-claim, reached-end
 --     written-read     of the bytes of a listing within the limits, that listing is read
 --     Rewritten        what a reader has read so far is nothing, or the bytes of what it says without the end
---     read-written     a book that is not refused is the bytes of what it says; read-well: and that is within the limits
---     w8-listing       what document 01's book says: its bytes (w8-written), what is read of them (w8-says), within the limits (w8-well)
+--     read-written     a book that is not refused is the bytes of what it says; read-well: and that is within the
+--                      limits
+--     w8-listing       what document 01's book says: its bytes (w8-written), what is read of them (w8-says), within the
+--                      limits (w8-well)
 use Prim.Native.Nat.{ℕ, zero, suc, _+_, _≤_, _<_}
 use mathlib.Core.Path.{_≡_, refl, sym, ap, ap₂, subst, _∙_}
 use mathlib.Core.Bool.{Bool, true, false, not}

@@ -1,7 +1,9 @@
 -- What reading a book tells.
 --
---     SoundBook s c        of a book that is not refused: its version, its counts, and that each curve's and each claim's content is sound (SoundCurve, SoundClaim)
---     Means                of a refused one: its place is in the book, or where the book ends, and within the first 32,768 bytes
+--     SoundBook s c        of a book that is not refused: its version, its counts, and that each curve's and each
+--                          claim's content is sound (SoundCurve, SoundClaim)
+--     Means                of a refused one: its place is in the book, or where the book ends, and within the first
+--                          32,768 bytes
 --     read-means           every list of bytes
 --     read-steps           a step more changes nothing: no answer is for want of steps
 --     sound-book, refused-inside     the two, told apart

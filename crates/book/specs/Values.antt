@@ -1,8 +1,11 @@
--- A curve's value, asked of a book. Document 01: "A curve's value is asked of a book by curve number and tick. A bad book gives its refusal; then a
--- number that names no curve is 11, a tick above 2,000,000,000 is 12, both with place 0 and no value."
+-- A curve's value, asked of a book. Document 01: "A curve's value is asked of a book by curve number and tick. A bad
+-- book gives its refusal; then a number that names no curve is 11, a tick above 2,000,000,000 is 12, both with place 0
+-- and no value."
 --
---     curveNamed       curve k of a book whose curves' fields begin at those places (named-array); of a sound book it is well formed (named-well)
---     valueAsked       the answer, by askedOf; maxTick: the largest tick; asked-refused, asked-none, asked-far, asked-value: by what the book is
+--     curveNamed       curve k of a book whose curves' fields begin at those places (named-array); of a sound book it
+--                      is well formed (named-well)
+--     valueAsked       the answer, by askedOf; maxTick: the largest tick; asked-refused, asked-none, asked-far,
+--                      asked-value: by what the book is
 --     refusalWord      a refusal and its place as one number, as the harness gets it
 --     told             the answer for C; asked-near: its place fits
 use Prim.Native.Nat.{ℕ, _+_, _*_, _≤_, _<_}

@@ -45,7 +45,8 @@ impl Asked {
     pub const MAX_TICK: u64 = 2_000_000_000;
 }
 
-// The same for C: the refusal's number + 2^8 * its place, 0 where there is a value; and the value, 0 where there is none.
+// The same for C: the refusal's number + 2^8 * its place, 0 where there is a value; and the value, 0 where there is
+// none.
 #[repr(C)]
 pub struct CurveValue {
     pub refusal: u64,

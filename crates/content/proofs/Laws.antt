@@ -1,6 +1,7 @@
 -- Laws that several functions' proofs cite.
 --
---     all-more, all-not     a test that is tried at 0, 1, 2 and so on: after one more place it passed, and where it fails
+--     all-more, all-not     a test that is tried at 0, 1, 2 and so on: after one more place it passed, and where it
+--                           fails
 --     left-over             a sum is above a limit exactly when one part is above what the other leaves of it
 use Prim.Native.Nat.{ℕ, _+_, _-_, _≤_, _<_}
 use mathlib.Core.Path.{_≡_, refl, sym, _∙_}

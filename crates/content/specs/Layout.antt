@@ -3,7 +3,8 @@
 --     rankIn, periodIn, incrementIn   "01: T (2), d (2), c (4), then T+d values (4 each)": read from a content
 --     countIn, valueIn, curveIn       (curveHead: the bytes of T, d and c)
 --     curveBytes, valuesBytes         the same, written
---     Statement, claimIn              "02: kind, left, right (1 each), then h (1) for kinds 1 to 3 or X (4) for 4 to 7": read from a content
+--     Statement, claimIn              "02: kind, left, right (1 each), then h (1) for kinds 1 to 3 or X (4) for 4 to
+--                                     7": read from a content
 --     thirdWidth, claimLength         (at most 4: third-small)
 --     claimBytes                      the same, written
 --     kindIn, idIn                    a claim's kind and the ids in it (third-id)

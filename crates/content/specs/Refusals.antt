@@ -7,7 +7,8 @@
 --     statementFault   a claim by its numbers, by kindFault over noneNamed, lastId and farX; claimFault: a content
 --     statedOf         a claim as a value: claimedOf, its claimed curve
 --     statementField, claimField     the same, with what is stated where nothing is refused (stated, statedOr)
---     on-sound, or-false     what is known where nothing was refused; claim-odd, claim-whole: by the length of a claim's content
+--     on-sound, or-false     what is known where nothing was refused; claim-odd, claim-whole: by the length of a
+--                            claim's content
 use Prim.Native.Nat.{ℕ, suc, _+_, _-_, _*_}
 use mathlib.Core.Path.{_≡_, refl}
 use mathlib.Core.Bool.{Bool, true, false, _||_, not, true≢false}
@@ -81,7 +82,8 @@ listedFault f =
     (on (not (eqb (length (f .listed)) (count f))) CurveLength
     (limitFault (f .increment) (f .listed)))
 
--- read: "6 length under 8; 7 d = 0 or T+d > 256; 6 length isn't 8+4*(T+d); 8 c or a value over 1,000,000; 9 values fall"
+-- read: "6 length under 8; 7 d = 0 or T+d > 256; 6 length isn't 8+4*(T+d); 8 c or a value over 1,000,000; 9 values
+-- fall"
 unfoldable pub curveFault : List ℕ → Checked
 unfolding noSpan limitFault listOf
 curveFault content =
@@ -119,7 +121,8 @@ unfoldable pub statementFault : ℕ → Statement → Checked
 unfolding kindFault
 statementFault curves c = elim (kindBy (c .kind)) [ none ↦ Refused WrongClaim | some κ ↦ kindFault κ curves c ]
 
--- read: "10 empty, unknown kind or wrong length; 11 an id that names no curve; 12 X too large". An empty content has not the length of its kind, which is read as 0
+-- read: "10 empty, unknown kind or wrong length; 11 an id that names no curve; 12 X too large". An empty content has
+-- not the length of its kind, which is read as 0
 unfoldable pub claimFault : ℕ → List ℕ → Checked
 unfolding statementFault thirdWidth
 claimFault curves content =

@@ -1,9 +1,13 @@
 -- What is not refused.
 --
---     listed-well           a curve is not refused exactly when it is within document 01's limits (span-fits; well-span, well-limits); curve-well-formed: so a content that is not refused says such a curve
---     WellStated            a claim of a known kind whose ids name curves of so many, with an X within its limit: exactly what is not refused (well-stated)
+--     listed-well           a curve is not refused exactly when it is within document 01's limits (span-fits;
+--                           well-span, well-limits); curve-well-formed: so a content that is not refused says such a
+--                           curve
+--     WellStated            a claim of a known kind whose ids name curves of so many, with an X within its limit:
+--                           exactly what is not refused (well-stated)
 --     claim-sound           a claim's content that is not refused has the length of its kind, and is such a claim
---     Stands                a claim's content states a claim of curves that the book has, with an X within its limit (claim-stands)
+--     Stands                a claim's content states a claim of curves that the book has, with an X within its limit
+--                           (claim-stands)
 use Prim.Native.Nat.{ℕ, suc, _*_, _+_, _-_, _≤_, _<_}
 use mathlib.Core.Path.{_≡_, refl, ap, _∙_}
 use mathlib.Core.Bool.{Bool, true, false, _||_, not}

@@ -1,4 +1,5 @@
-// What stands in a field of a book: a curve or a claim, or why it is refused. The reader and the writer go by the same rules.
+// What stands in a field of a book: a curve or a claim, or why it is refused. The reader and the writer go by the same
+// rules.
 ghost use mathlib.Core.Path.{_≡_};
 ghost use Rattle.content.specs.Refusals.{numberOf};
 use curve::Claim;

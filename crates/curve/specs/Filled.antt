@@ -1,6 +1,7 @@
 -- An array that is filled from the front, one store a turn, and is 0 from there on.
 --
---     inArray room l     an array of that room with l at its front: array-more, after one more store; array-at, what is stored
+--     inArray room l     an array of that room with l at its front: array-more, after one more store; array-at, what is
+--                        stored
 --     listOf F k         F(0) to F(k-1)
 --     filled F room k    that list in an array: the array after k stores
 --     filled-none, filled-more     before the first store, and after one more

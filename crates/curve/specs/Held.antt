@@ -1,9 +1,11 @@
 -- The curve that the code's values stand for.
 --
 --     heldOf, curveOf                T, d, c and the first T + d places of an array, as a curve of the crate minplus
---     padded                         a list in the working array; held-whole: what is put in is what is held; padded-listed, padded-filled: F(0) to F(k-1) in it
+--     padded                         a list in the working array; held-whole: what is put in is what is held;
+--                                    padded-listed, padded-filled: F(0) to F(k-1) in it
 --     holding                        a curve in the working copy; holding-back: of a well-formed one, it is that curve
---     Listed                         document 01's limits on the listed values, for a loop that looks at one more each turn
+--     Listed                         document 01's limits on the listed values, for a loop that looks at one more each
+--                                    turn
 --     listed-none, listed-more       before the first turn, and after one more
 --     held-listed, listed-held       of the working array, exactly the values that count have to keep them
 use Prim.Native.Nat.{ℕ, zero, suc, _+_, _≤_, _<_, min}

@@ -1,10 +1,11 @@
 -- The table of a curve's values at the ticks from 0 on, in 32 bits.
 --
 --     largest, cell      a value, or the largest number of 32 bits where it needs more
---     over F k s         s with F(0) to F(k-1) over its first k places: over-none, over-more, before the first store and after one more;
---                        over-length, as many places as before; over-at, what is stored
+--     over F k s         s with F(0) to F(k-1) over its first k places: over-none, over-more, before the first store
+--                        and after one more; over-length, as many places as before; over-at, what is stored
 --     tableOver          the values over as many places as there are, at most 4,097
---     table-at           of a well-formed curve each of them is the value itself; table-length: as many places as before
+--     table-at           of a well-formed curve each of them is the value itself; table-length: as many places as
+--                        before
 use Prim.Native.Nat.{ℕ, suc, _+_, _≤_, _<_, min}
 use mathlib.Core.Path.{_≡_, refl, sym, _∙_}
 use mathlib.Core.List.{List, _++_}

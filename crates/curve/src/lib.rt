@@ -1,4 +1,5 @@
-// Curves and claims as values, and what everything above asks of them: a value at a tick, a table of values, which of two is slower.
+// Curves and claims as values, and what everything above asks of them: a value at a tick, a table of values, which of
+// two is slower.
 ghost use mathlib.Core.Path.{_≡_};
 ghost use Rattle.curve.specs.Held.{padded};
 ghost use Rattle.curve.specs.Kinds.{namedBy, limitedBy, within};
@@ -12,7 +13,8 @@ pub struct Ticks(pub u32);
 // A count of data units. A value at any tick that `Ticks` holds fits.
 pub struct Units(pub u64);
 
-// The working copy of a curve, with room for 256 values whatever its rank. What is held from T + d on counts for nothing.
+// The working copy of a curve, with room for 256 values whatever its rank. What is held from T + d on counts for
+// nothing.
 pub struct Curve {
     pub rank: Ticks,
     pub period: Ticks,

@@ -22,7 +22,8 @@ fn listed_at(listed: &[u32], count: u64, at: u64) -> u64
     0
 }
 
-// The array is lent, so that no call copies it. A period of 0 is no curve's, and has the definition's value all the same.
+// The array is lent, so that no call copies it. A period of 0 is no curve's, and has the definition's value all the
+// same.
 pub fn value_at(rank: Ticks, period: Ticks, increment: u32, listed: &[u32], tick: Ticks) -> Units
     ensures { λ r. ⌜ r .0 ≡ value (heldOf (rank .0) (period .0) increment (now (listed .entry))) (tick .0) ⌝ }
 {
@@ -51,7 +52,8 @@ fn narrow(x: u64) -> u32
     }
 }
 
-// The values at the ticks from 0 on, over the places of `out`: at most 4,097 of them, and what stands after those stays.
+// The values at the ticks from 0 on, over the places of `out`: at most 4,097 of them, and what stands after those
+// stays.
 pub fn fill(rank: Ticks, period: Ticks, increment: u32, listed: &[u32], out: &mut [u32])
     ensures { λ _. ⌜ now (out .exit) ≡ tableOver (heldOf (rank .0) (period .0) increment (now (listed .entry))) (now (out .entry)) ⌝ }
 {

@@ -1,12 +1,16 @@
 -- Reading and writing a field undo each other.
 --
 --     version-fits              a version is a number of seven bits and not 0 (begun-on): all that is used of it
---     version-back, version-taken     a version's content, read of its bytes; version-sound, version-again: one that is not refused
+--     version-back, version-taken     a version's content, read of its bytes; version-sound, version-again: one that is
+--                                     not refused
 --     tag-back, tag-number      a tag and its number
---     length-field              how many bytes are written; bytes-field, content-bytes: they are bytes, and so is a content that is read of bytes
+--     length-field              how many bytes are written; bytes-field, content-bytes: they are bytes, and so is a
+--                               content that is read of bytes
 --     field-tag, field-content     tag and content, read of a field's bytes
---     field-taken               a field that stands where a reader is, in order, with room and with a sound content, is taken
---     field-again               a field that was taken is the bytes of its tag and its content; end-last: after the end nothing is left
+--     field-taken               a field that stands where a reader is, in order, with room and with a sound content, is
+--                               taken
+--     field-again               a field that was taken is the bytes of its tag and its content; end-last: after the end
+--                               nothing is left
 use Prim.Native.Nat.{ℕ, _+_, _-_, _≤_, _<_}
 use mathlib.Core.Path.{_≡_, refl, sym, ap, ap₂, _∙_}
 use mathlib.Core.Bool.{Bool, true, false, not}

@@ -1,5 +1,6 @@
--- A field's answer, and the state of a reader after it. Document 01, 'Refusal numbers': "the first bad field decides and its first byte is the place. Within a field, in this
--- order: 1 fewer than 3 bytes are left; 2 unknown tag; 3 field out of its place in the order (a second version too); 4 a 17th curve or 257th claim; 1 again, content runs past the
+-- A field's answer, and the state of a reader after it. Document 01, 'Refusal numbers': "the first bad field decides
+-- and its first byte is the place. Within a field, in this order: 1 fewer than 3 bytes are left; 2 unknown tag; 3 field
+-- out of its place in the order (a second version too); 4 a 17th curve or 257th claim; 1 again, content runs past the
 -- book; then by tag".
 --
 --     maxCurves, maxClaims, isVersion     document 01's numbers
@@ -8,7 +9,8 @@
 --     after            where a reader stands after a field (after-place)
 --     stepOn, stepAt   a field's answer, by tagged and answer
 --     field-cases      a field is refused at its place (refused-at), or its tests pass and it is taken
---     Takes            what is known of a field that is taken (takes); next-place, next-inside: the next place is in the book or at its end
+--     Takes            what is known of a field that is taken (takes); next-place, next-inside: the next place is in
+--                      the book or at its end
 use Prim.Native.Nat.{ℕ, _+_, _-_, _≤_, _<_}
 use mathlib.Core.Path.{_≡_, refl, ap, subst, _∙_}
 use mathlib.Core.Bool.{Bool, true, false, _&&_, not}
@@ -81,7 +83,8 @@ full tag.End curves claims = false
 abbrev pub fieldSize : List ℕ → ℕ
 fieldSize r = headLength + lengthOf r
 
--- "3 field out of its place in the order (a second version too); 4 a 17th curve or 257th claim; 1 again, content runs past the book; then by tag"
+-- "3 field out of its place in the order (a second version too); 4 a 17th curve or 257th claim; 1 again, content runs
+-- past the book; then by tag"
 unfoldable pub taggedFault : Tag → State → List ℕ → Checked
 unfolding inOrder full contentFault
 taggedFault t st r =
@@ -119,7 +122,8 @@ stepAt s st = stepOn st (drop (st .place) s)
 
 -- ---- laws
 
--- what a field that is taken tells: its tag, that it is in order, there is room for it, it is all there, and its content is sound
+-- what a field that is taken tells: its tag, that it is in order, there is room for it, it is all there, and its
+-- content is sound
 pub record Takes (s : List ℕ) (st : State) (t : Tag) (next : State) : Type 0 where
   pub is : tagOf (drop (st .place) s) ≡ Known t
   pub ordered : inOrder t (st .version) (st .claims) ≡ true

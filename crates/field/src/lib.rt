@@ -34,7 +34,8 @@ pub enum Tagged {
     Unknown,
 }
 
-// Where a reader stands: what came before `place`, the first byte of the next field. No version is 0: that says that none has come yet.
+// Where a reader stands: what came before `place`, the first byte of the next field. No version is 0: that says that
+// none has come yet.
 pub struct State {
     pub version: u8,
     pub curves: usize,

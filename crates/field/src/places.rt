@@ -1,4 +1,5 @@
-// The curve or the claim whose field begins at a place. The place is not looked at first: of a book that ends before the field does, what is missing reads as 0.
+// The curve or the claim whose field begins at a place. The place is not looked at first: of a book that ends before
+// the field does, what is missing reads as 0.
 ghost use mathlib.Core.Path.{_≡_};
 ghost use Rattle.curve.specs.Held.{holding};
 ghost use Rattle.content.specs.Layout.{curveIn};

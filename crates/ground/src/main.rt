@@ -1,4 +1,5 @@
-// Document 01's ground, its errors that look right and its edges, run: standard input has the cases, and each prints a line.
+// Document 01's ground, its errors that look right and its edges, run: standard input has the cases, and each prints a
+// line.
 use curve::Claim;
 use curve::Curve;
 use curve::Named;
@@ -49,7 +50,8 @@ fn value(f: Curve, tick: u32) {
     io::write_all(1, b"\n");
 }
 
-// Kind 0 asks for the left curve's value at tick X. A curve that the line lacks is read as one of period 0, which is ill-formed.
+// Kind 0 asks for the left curve's value at tick X. A curve that the line lacks is read as one of period 0, which is
+// ill-formed.
 fn answer(line: &[u8], kind: u64, x: u64) {
     let left = read::past(line, 0, b'|');
     let right = read::past(line, left, b'|');

@@ -2,14 +2,17 @@
 --
 --     choice greatest           the greater or the lesser of two numbers
 --     signedOf                  a struct of two numbers as a signed number
---     raisedAt                  the numbers that an extreme is taken of; extreme-held: of the listed values as of the curve's
---     Extent, Small, Ready, Crossable      what is known where it is computed, so that products fit: no extreme is above large, no N above far
+--     raisedAt                  the numbers that an extreme is taken of; extreme-held: of the listed values as of the
+--                               curve's
+--     Extent, Small, Ready, Crossable      what is known where it is computed, so that products fit: no extreme is
+--                                          above large, no N above far
 --     raised-fits, choice-fits, begun-fits, above-fits, below-fits, faster-fits     that they do
 --     evenRank, crossingN       the rank with equal rates, and N where f is the slower curve
---     rates-left, rates-right, rates-even     by the three ways in which two rates can stand; convolution-none, convolution-some: by T
+--     rates-left, rates-right, rates-even     by the three ways in which two rates can stand; convolution-none,
+--                                             convolution-some: by T
 --     rank-is                   R is the greater of the two
---     horizonAnswer             the answer: no horizon for a claim that is not well formed (horizon-none, ill-formed), else its
---                               horizon (horizon-at, at-horizon)
+--     horizonAnswer             the answer: no horizon for a claim that is not well formed (horizon-none, ill-formed),
+--                               else its horizon (horizon-at, at-horizon)
 use Prim.Native.Nat.{ℕ, suc, _+_, _-_, _*_, _≤_, _<_, min, max}
 use mathlib.Core.Path.{_≡_, refl, sym, ap, _∙_}
 use mathlib.Core.Bool.{Bool, true, false}

@@ -1,11 +1,13 @@
--- The answer and the verdict buffer, taken apart. Document 01: "as one 64-bit number: refusal number + 2^8 * place + 2^24 * accepted + 2^36 * refuted + 2^48 * not judged"; "A record is 21
--- bytes: code, tick (4 bytes), left value (8), right value (8), high byte first."
+-- The answer and the verdict buffer, taken apart. Document 01: "as one 64-bit number: refusal number + 2^8 * place +
+-- 2^24 * accepted + 2^36 * refuted + 2^48 * not judged"; "A record is 21 bytes: code, tick (4 bytes), left value (8),
+-- right value (8), high byte first."
 --
 --     answerWith                an answer from its parts
 --     refusalIn, placeIn, acceptedIn, refutedIn, unjudgedIn     the parts of an answer (answer-parts)
 --     claimsIn                  the three totals together
 --     certified                 over the totals: "yes exactly when there is at least one claim and all are accepted"
---     recordSize, codeIn, tickIn, leftIn, rightIn     the record of a claim in a buffer; recordIn: the four numbers together
+--     recordSize, codeIn, tickIn, leftIn, rightIn     the record of a claim in a buffer; recordIn: the four numbers
+--                                                     together
 use Prim.Native.Nat.{ℕ, _+_, _*_, _/_, _%_, _^_, _<_}
 use mathlib.Core.Path.{_≡_}
 use mathlib.Core.Bool.{Bool, _&&_}

@@ -1,9 +1,11 @@
 -- The claims of a book over its curves.
 --
 --     claimOn s places st         what a claim's field states, of the curves whose fields begin at those places
---     verdictIn s places curves p     the verdict on the claim whose field is at p, among so many curves; verdictFor: on what it states
+--     verdictIn s places curves p     the verdict on the claim whose field is at p, among so many curves; verdictFor:
+--                                     on what it states
 --     stated-kind                 what is stated is what the content's bytes say of its kind
---     StandsOver                  it is a claim of curves that are there and well formed: so is each of a sound book (stands-over)
+--     StandsOver                  it is a claim of curves that are there and well formed: so is each of a sound book
+--                                 (stands-over)
 --     claim-well, verdict-stands     then it is well formed, and the verdict is that of document 01's rule
 --     stands-array, verdict-array    all the same where the places stand in an array
 use Prim.Native.Nat.{ℕ, _≤_, _<_}

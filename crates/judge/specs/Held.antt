@@ -1,10 +1,13 @@
 -- A sound book as the code runs over it.
 --
---     ClaimTold s places st      what is known of a claim's field that is read as st: its curves are there and well formed, and so is it (claim-told)
+--     ClaimTold s places st      what is known of a claim's field that is read as st: its curves are there and well
+--                                formed, and so is it (claim-told)
 --     claim-held                 a claim of curves in their working copies
 --     verdict-given              the verdict on a well-formed claim (orUnjudged)
---     Runs s book b              what the loop is given: a sound book as it is held, and a buffer with room for its records
---     Ran s b out totals k     where it stands after k claims; ran-none, ran-more, ran-all: as it begins, after one more, and at the end
+--     Runs s book b              what the loop is given: a sound book as it is held, and a buffer with room for its
+--                                records
+--     Ran s b out totals k     where it stands after k claims; ran-none, ran-more, ran-all: as it begins, after one
+--                              more, and at the end
 --     claims-few, countable, sound-countable, length-written     how much is counted and written then
 use Prim.Native.Nat.{ℕ, _+_, _*_, _≤_, _<_}
 use mathlib.Core.Path.{_≡_, refl, sym, ap, subst, _∙_}

@@ -1,15 +1,19 @@
 -- For an inspector: what an answer and a verdict buffer say of a book, for any bytes.
 --
--- `judge` answers answerOf s b on a book of the bytes s with a lent buffer b, and leaves bufferOf s b there. Whatever the bytes, the answer is one of two:
+-- `judge` answers answerOf s b on a book of the bytes s with a lent buffer b, and leaves bufferOf s b there. Whatever
+-- the bytes, the answer is one of two:
 --
---     Refused s b a after     a refusal: document 01's number and place, no totals, and every byte of the buffer as it was
---     Judged s b a after      the book is sound, there is a record for each claim, the totals count the records, and the rest of the buffer is as it was;
---                             each record is on its claim (ClaimJudged) and says of it, code by code, what is so at every tick, without end (Says)
+--     Refused s b a after     a refusal: document 01's number and place, no totals, and every byte of the buffer as it
+--                             was
+--     Judged s b a after      the book is sound, there is a record for each claim, the totals count the records, and
+--                             the rest of the buffer is as it was; each record is on its claim (ClaimJudged) and says
+--                             of it, code by code, what is so at every tick, without end (Says)
 --     inspected               for any s and b; record-back: record k of the buffer is the record on claim k
 --     IsClaim, claimCurve     claim k and its curves, as the claim's bytes say it (claimContent)
 --     accepted-convolution    for the code 1 of kind 3 spelled out: h(n) is the least f(u)+g(n-u), at every n
 --     certified-means         a certified book: at least one claim, and each holds at every tick
---     inspected-w8            W8 is such a book; short-w8: with a byte too few for its record it is refused; w4, inspected-w4: W4 has a claim of kind 3 that is accepted
+--     inspected-w8            W8 is such a book; short-w8: with a byte too few for its record it is refused; w4,
+--                             inspected-w4: W4 has a claim of kind 3 that is accepted
 use Prim.Native.Nat.{ℕ, zero, suc, _+_, _*_, _≤_, _<_, _^_}
 use mathlib.Core.Path.{_≡_, refl, sym, ap, subst, _∙_}
 use mathlib.Core.Bool.{Bool, true, false}
@@ -52,9 +56,11 @@ use Rattle.judge.specs.Readback.{Fits, record-fits, records-back}
 -- what a record says of its claim
 pub record Says (c : Claim) (r : Record) : Type 0 where
   pub code-known : (1 ≤ r .code) × (r .code ≤ 5)
-  -- accepted: exactly when the horizon is within the limit and what document 01's table says of the kind holds at every tick
+  -- accepted: exactly when the horizon is within the limit and what document 01's table says of the kind holds at every
+  -- tick
   pub code-1 : (r .code ≡ 1) ↔ ((horizon c ≤ maxHorizon) × Claimed c)
-  -- refuted at a tick: exactly when the named tick is the first that breaks the rule, and a tried one, and both values are the values there
+  -- refuted at a tick: exactly when the named tick is the first that breaks the rule, and a tried one, and both values
+  -- are the values there
   pub code-2 : (r .code ≡ 2)
       ↔ ((horizon c ≤ maxHorizon) × (r .tick < tried c) × ((m : ℕ) → m < r .tick → Rule c m) × (¬ (Rule c (r .tick))) × (r .left ≡ leftAt c (r .tick)) × (r .right ≡ rightAt c (r .tick)))
   -- refuted by rate: exactly when no tried tick breaks the rule, and some later one does
@@ -66,7 +72,8 @@ pub record Says (c : Claim) (r : Record) : Type 0 where
   -- "For other codes the twenty bytes are 0."
   pub else-zero : ¬ (r .code ≡ 2) → (r .tick ≡ 0) × (r .left ≡ 0) × (r .right ≡ 0)
 
--- claim k of a sound book, as its bytes say it: "kind, left, right (1 each), then h (1) for kinds 1 to 3 or X (4) for 4 to 7"
+-- claim k of a sound book, as its bytes say it: "kind, left, right (1 each), then h (1) for kinds 1 to 3 or X (4) for 4
+-- to 7"
 abbrev pub claimContent : List ℕ → Contents → ℕ → List ℕ
 claimContent s c k = contentAt s (getD (c .claims) k 0)
 

@@ -1,7 +1,10 @@
--- The records as bytes. Document 01, 'Verdicts': "A record is 21 bytes: code, tick (4 bytes), left value (8), right value (8), high byte first."
+-- The records as bytes. Document 01, 'Verdicts': "A record is 21 bytes: code, tick (4 bytes), left value (8), right
+-- value (8), high byte first."
 --
---     recordBytes                 a record's bytes (record-parts); length-record: there are 21; put-record: written number after number
---     recordsTo f n               those of f(0) to f(n-1), one after the other; length-records: 21 each; records-more: one more is written
+--     recordBytes                 a record's bytes (record-parts); length-record: there are 21; put-record: written
+--                                 number after number
+--     recordsTo f n               those of f(0) to f(n-1), one after the other; length-records: 21 each; records-more:
+--                                 one more is written
 use Prim.Native.Nat.{ℕ, zero, suc, _+_, _*_, _≤_}
 use mathlib.Core.Path.{_≡_, refl, sym, ap, _∙_}
 use mathlib.Core.List.{List, [], _++_}

@@ -1,9 +1,12 @@
--- The run over a book: its answer and the lent bytes afterwards. Document 01: "it hands over a book and a verdict buffer and gets back the refusal or the totals, as one 64-bit number:
--- refusal number + 2^8 * place + 2^24 * accepted + 2^36 * refuted + 2^48 * not judged"; "Last, 14: a sound book has more claims than the lent buffer has room for (21 bytes each),
--- place 0. A refusal gives number and place with all totals 0 and writes nothing. On success number and place are 0, the first 21 bytes per claim are written and the rest stays."
+-- The run over a book: its answer and the lent bytes afterwards. Document 01: "it hands over a book and a verdict
+-- buffer and gets back the refusal or the totals, as one 64-bit number: refusal number + 2^8 * place + 2^24 *
+-- accepted + 2^36 * refuted + 2^48 * not judged"; "Last, 14: a sound book has more claims than the lent buffer has room
+-- for (21 bytes each), place 0. A refusal gives number and place with all totals 0 and writes nothing. On success
+-- number and place are 0, the first 21 bytes per claim are written and the rest stays."
 --
 --     recordAt s c k       the record on claim k of a sound book; verdictAt, codeAt: its verdict and its code
---     admitted s room      what a book is to a buffer of so many bytes: sound, or refused for itself or for want of room (admittedOn); Room: there is enough
+--     admitted s room      what a book is to a buffer of so many bytes: sound, or refused for itself or for want of
+--                          room (admittedOn); Room: there is enough
 --     answerOf s b         the answer, by answerOn: refusedWord, or the totals (totalsOn)
 --     bufferOf s b         the lent buffer afterwards, by bufferOn
 --     run-refused, run-short, run-sound     both, by what the book is and whether the buffer has room

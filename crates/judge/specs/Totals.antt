@@ -1,9 +1,10 @@
--- The totals. Document 01, 'Verdicts': "Totals: accepted, refuted and not judged add up to the claims counted in the book. Each is the number of records with its codes: 1 accepted;
--- 2, 3 and 4 refuted; 5 not judged."
+-- The totals. Document 01, 'Verdicts': "Totals: accepted, refuted and not judged add up to the claims counted in the
+-- book. Each is the number of records with its codes: 1 accepted; 2, 3 and 4 refuted; 5 not judged."
 --
 --     isAccepted, isRefuted, isUnjudged     the codes of each
 --     countTo p codes n       how many of codes(0) to codes(n-1) are such
---     totalsTo codes n        the three totals over them; counted: with one code more (totals-more); Countable: no more than a book may have
+--     totalsTo codes n        the three totals over them; counted: with one code more (totals-more); Countable: no more
+--                             than a book may have
 --     together                their sum
 --     totalsWord              as an answer
 --     totals-add-up           of verdicts they add up

@@ -1,4 +1,5 @@
-// The run over a book: a verdict on each claim, written as records into lent bytes, and the refusal or the totals as one number.
+// The run over a book: a verdict on each claim, written as records into lent bytes, and the refusal or the totals as
+// one number.
 ghost use mathlib.Core.Path.{_≡_};
 ghost use Rattle.judge.specs.Run.{answerOf, bufferOf};
 use book::Outcome;
@@ -25,8 +26,8 @@ impl Totals {
     pub const RECORD: usize = 21;
 }
 
-// The answer is the refusal's number + 2^8 * its place, or else 2^24 * accepted + 2^36 * refuted + 2^48 * not judged. A refused book leaves the buffer as it was; of a
-// sound one the records stand at the front, in the order of the claims.
+// The answer is the refusal's number + 2^8 * its place, or else 2^24 * accepted + 2^36 * refuted + 2^48 * not judged. A
+// refused book leaves the buffer as it was; of a sound one the records stand at the front, in the order of the claims.
 pub fn judge(book: &[u8], verdicts: &mut [u8]) -> u64
     ensures { λ r. ⌜ r ≡ answerOf (now (book .entry)) (now (verdicts .entry)) ⌝ }
     ensures { λ _. ⌜ now (verdicts .exit) ≡ bufferOf (now (book .entry)) (now (verdicts .entry)) ⌝ }

@@ -10,7 +10,8 @@ pub struct Number {
     pub next: usize,
 }
 
-// The place of a byte from `from` on, or the end, also where `from` is past it. The first two say what `&s[from..r]` and `&s[..r]` ask.
+// The place of a byte from `from` on, or the end, also where `from` is past it. The first two say what `&s[from..r]`
+// and `&s[..r]` ask.
 pub fn find(s: &[u8], from: usize, byte: u8) -> usize
     ensures { λ r. ⌜ min from (length (now (s .entry))) ≤ r ⌝ }
     ensures { λ r. ⌜ Ends r (now (s .entry)) ⌝ }

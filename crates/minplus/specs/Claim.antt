@@ -1,7 +1,7 @@
 -- The kinds of claim, what each says of its curves, and at which ticks.
 --
--- Document 01, 'Claims': "f is the left curve, g the right one, h the claimed one. The same curve may stand in two or three
--- places", and the table of kinds 1 to 7.
+-- Document 01, 'Claims': "f is the left curve, g the right one, h the claimed one. The same curve may stand in two or
+-- three places", and the table of kinds 1 to 7.
 --
 --     Operation, due       kinds 1 to 3: the value that h has to have at a tick
 --     Deviation, allowed   kinds 4 to 7: the value that f may have at a tick; Tightness: a bound, or the least one
@@ -10,7 +10,8 @@
 --     Kind, kindNumber     the seven kinds and their numbers
 --     kindBy               the kind of a number, if it is one's: exactly what kindNumber says (kind-by, kind-none)
 --     Claim, kindOf        a claim over its curves, and its kind
---     WellFormedClaim      its curves are well formed and X is within its limit (maxX); wellFormedClaim is the same as a test (well-formed-claim)
+--     WellFormedClaim      its curves are well formed and X is within its limit (maxX); wellFormedClaim is the same as
+--                          a test (well-formed-claim)
 --     Claimed              what it says: the table's right column
 use Prim.Native.Nat.{ℕ, _+_, _-_, _≤_, _<_, min}
 use mathlib.Core.Path.{_≡_, refl}
@@ -47,7 +48,8 @@ allowed backlog g X s = g s + X
 abbrev pub Bound : Deviation → (ℕ → ℕ) → (ℕ → ℕ) → ℕ → Type 0
 Bound δ f g X = (s : ℕ) → f s ≤ allowed δ g X s
 
--- "The backlog is the trade's vertical deviation, the greatest f(s)-g(s)": X is that, where a difference below 0 counts as 0
+-- "The backlog is the trade's vertical deviation, the greatest f(s)-g(s)": X is that, where a difference below 0 counts
+-- as 0
 abbrev pub VerticalDeviation : (ℕ → ℕ) → (ℕ → ℕ) → ℕ → Type 0
 VerticalDeviation f g X = ((s : ℕ) → f s - g s ≤ X) × ((s : ℕ) × (f s - g s ≡ X))
 

@@ -1,7 +1,7 @@
 -- The min-plus convolution of two functions of ticks.
 --
--- Document 01, 'Claims': "h(n) = the least f(u)+g(n-u), 0 <= u <= n". Source document 000 has it in its section 3, source
--- document 003 as its equation 2. All that is used of it is said with splits u + v = n:
+-- Document 01, 'Claims': "h(n) = the least f(u)+g(n-u), 0 <= u <= n". Source document 000 has it in its section 3,
+-- source document 003 as its equation 2. All that is used of it is said with splits u + v = n:
 --
 --     conv f g n       the least f(u) + g(n-u), u from 0 to n
 --     conv-lower       no split gives less; conv-below: the same, by the tick

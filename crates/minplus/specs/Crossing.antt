@@ -1,11 +1,12 @@
--- The crossing N, pinned without shifts: N <= n exactly when document 01's formula, multiplied out, holds at n for every t of
--- its two or three lists. No other number has this law (bounds-fix).
+-- The crossing N, pinned without shifts: N <= n exactly when document 01's formula, multiplied out, holds at n for
+-- every t of its two or three lists. No other number has this law (bounds-fix).
 --
 --     In start count      a tick t with start <= t < start + count
---     Greatest, Least     a signed number is the greatest or the least p(i) - q(i) over all i: a bound of them that is one of them
+--     Greatest, Least     a signed number is the greatest or the least p(i) - q(i) over all i: a bound of them that is
+--                         one of them
 --     Slower f g          c*d' < c'*d
---     Crossed             d'*A - d*B <= (c'*d - c*d')*n, with each A = p - q and B = p' - q' put in and what is subtracted moved across;
---                         SplitCrossed: the same with A and B increased
+--     Crossed             d'*A - d*B <= (c'*d - c*d')*n, with each A = p - q and B = p' - q' put in and what is
+--                         subtracted moved across; SplitCrossed: the same with A and B increased
 --     minimumN-law        N of a minimum; convolutionN-law: of a convolution, at T = 0 too
 use Prim.Native.Nat.{ℕ, zero, suc, _+_, _-_, _*_, _/_, _≤_, _<_, min, max}
 use mathlib.Core.Path.{_≡_, refl, sym, ap, _∙_, subst}

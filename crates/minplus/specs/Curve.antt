@@ -1,13 +1,14 @@
 -- A curve, when it is well formed, and its value at any tick.
 --
 -- Document 01, 'Curves': "A curve has a rank T, period d, increment c and listed values f(0) to f(T+d-1). For n >= T,
--- f(n+d) = f(n)+c. Limits: d >= 1, T+d <= 256, c and each listed value <= 1,000,000. Curves never fall: no listed value is
--- below the one before it."
+-- f(n+d) = f(n)+c. Limits: d >= 1, T+d <= 256, c and each listed value <= 1,000,000. Curves never fall: no listed value
+-- is below the one before it."
 --
 --     Curve                     rank T, period d, increment c, listed values
 --     maxListed, maxUnits       the limits
 --     count f, listedAt f n     T + d, and the n-th listed value
---     WellFormed f              every limit of that paragraph; wellFormed f is the same as a test that computes (well-formed)
+--     WellFormed f              every limit of that paragraph; wellFormed f is the same as a test that computes
+--                               (well-formed)
 --     value f n                 f(n), at any tick n
 --     value-listed              below T + d it is the listed value
 --     value-gains               from T on it gains c over d; value-repeats: and k*c over k*d
@@ -55,8 +56,8 @@ pub record WellFormed (f : Curve) : Type 0 where
   pub values-fit : (n : ℕ) → n < count f → listedAt f n ≤ maxUnits
   pub never-falls : (n : ℕ) → n < count f - 1 → listedAt f n ≤ listedAt f (suc n)
 
--- f(n): the tick's place in the list, and the increments of the whole periods since the rank. Below the rank the truncated
--- difference is 0, and so are its quotient and its remainder
+-- f(n): the tick's place in the list, and the increments of the whole periods since the rank. Below the rank the
+-- truncated difference is 0, and so are its quotient and its remainder
 unfoldable pub value : Curve → ℕ → ℕ
 value f n = listedAt f (min n (f .rank) + (n - f .rank) % f .period) + (n - f .rank) / f .period * f .increment
 

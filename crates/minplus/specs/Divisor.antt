@@ -1,13 +1,14 @@
 -- The greatest common divisor by Euclid's rule, and the least common multiple from it.
 --
--- Document 01, 'The horizon': "D is the least common multiple of the periods d of f and d' of g, from the greatest common
--- divisor by Euclid's rule."
+-- Document 01, 'The horizon': "D is the least common multiple of the periods d of f and d' of g, from the greatest
+-- common divisor by Euclid's rule."
 --
 --     gcd a b          Euclid's rule: gcd-zero, gcd-step
 --     gcd-left, gcd-right, gcd-greatest     it divides both, and each common divisor divides it
 --     lcm a b          a / gcd a b * b
 --     lcm-left, lcm-right, lcm-least        both divide it, and it divides each common multiple; lcm-comm
---     lcm-positive, lcm-at-most, lcm-none     the bounds that code needs, and the one case that Euclid's rule leaves at 0
+--     lcm-positive, lcm-at-most, lcm-none     the bounds that code needs, and the one case that Euclid's rule leaves at
+--                                             0
 use Prim.Native.Nat.{ℕ, zero, suc, _-_, _*_, _/_, _%_, _≤_, _<_, _∣_}
 use mathlib.Core.Path.{_≡_, refl, sym, ap, _∙_, subst}
 use native.Mathlib.Omega.{arith}

@@ -50,7 +50,8 @@ gained-back {F} {K} {P} G n le = ap F (sym (sub-add-cancel {n = n} {m = P} (omeg
 pub gains-sum : {F G : ℕ → ℕ} {K P a b : ℕ} → Gains F K P a → Gains G K P b → Gains (λ n. F n + G n) K P (a + b)
 gains-sum {F} {G} GF GG = record { gain = λ n le. omega (arith, GF .gain n le, GG .gain n le) }
 
--- a fact at every tick, from the ticks up to K + P - 1 and a step over one period: P ticks are never left out, since P > 0
+-- a fact at every tick, from the ticks up to K + P - 1 and a step over one period: P ticks are never left out, since
+-- P > 0
 module _ (S : ℕ → Type 0) (K P : ℕ) (positive : 0 < P) (first : (n : ℕ) → n < K + P → S n) (step : (n : ℕ) → K ≤ n → S n → S (n + P)) where
   pub every-period : (n : ℕ) → S n
   every-period n = WellFounded·induction (Nat·lt-wfRel .wf) {C = S} n (λ m below. elim (decLe (K + P) m) [

@@ -1,5 +1,6 @@
--- Document 01, 'Ground to check against': W1 to W12 from the rules, as one table with one computed test. Below them stand the
--- edges that its 'Errors that look right' names, and some more; each comment says which wrong reading the row rules out.
+-- Document 01, 'Ground to check against': W1 to W12 from the rules, as one table with one computed test. Below them
+-- stand the edges that its 'Errors that look right' names, and some more; each comment says which wrong reading the row
+-- rules out.
 --
 --     table, ground     what is asked and the due answer; the test: every answer is the due one
 --     ground-at         the answer of each row by itself; accepted-at: of a row that is accepted
@@ -158,7 +159,8 @@ table =
     ∷ verdictOf (equals convolution (flat 0 1 5) line (flat 0 1 5)) is judged accepted
     -- with T+T'+D for the rank, ticks 0 to 3 alone would be compared, and agree
     ∷ verdictOf (equals convolution (curve 1 1 0 (0 ∷ 100 ∷ [])) line line) is judged (refutedAt 101 100 101)
-    -- where rates differ and N is small, the ranks alone decide: max(T,T') for a minimum, T+T'+D for a convolution, whichever is the slower one
+    -- where rates differ and N is small, the ranks alone decide: max(T,T') for a minimum, T+T'+D for a convolution,
+    -- whichever is the slower one
     ∷ horizonOf (equals minimum late steep (flat 0 1 0)) is number 4
     ∷ horizonOf (equals minimum steep late (flat 0 1 0)) is number 4
     ∷ horizonOf (equals convolution late steep (flat 0 1 0)) is number 7

@@ -1,17 +1,20 @@
 -- How far a claim has to be looked at: the rank R of a result, the crossing N, and the horizon.
 --
--- Document 01, 'The horizon', sentence by sentence. T, d, c are the left curve's rank, period and increment; T', d', c' the
--- right one's. Its N is a whole-number formula with differences that may be below 0: here such a difference is kept as a
--- pair of natural numbers, plus less minus, and truncated subtraction is the formula's "larger of 0".
+-- Document 01, 'The horizon', sentence by sentence. T, d, c are the left curve's rank, period and increment; T', d', c'
+-- the right one's. Its N is a whole-number formula with differences that may be below 0: here such a difference is kept
+-- as a pair of natural numbers, plus less minus, and truncated subtraction is the formula's "larger of 0".
 --
 --     commonPeriod           D
---     slower, byRates        rates compared by cross products, and a rank for each of the three ways that they can stand
+--     slower, byRates        rates compared by cross products, and a rank for each of the three ways that they can
+--                            stand
 --     Signed, increasedBy    plus less minus
 --     extremeOf              the greatest or the least d*f(t) - c*t over some ticks t; raisedAt: one of them, raised
---     highest, lowest, earliest     the A, the B and the last list's least value of document 01; begunAt: what A is increased by
+--     highest, lowest, earliest     the A, the B and the last list's least value of document 01; begunAt: what A is
+--                                   increased by
 --     roundedUp, crossing    x/y rounded up; N from A and B
 --     minimumN, convolutionN N where f is the slower one; Crossing.antt pins both without shifts
---     rankOf                 R, by slowMinimum and slowConvolution where f is the slower one; lastRank and fullPeriod: K and P
+--     rankOf                 R, by slowMinimum and slowConvolution where f is the slower one; lastRank and fullPeriod:
+--                            K and P
 --     horizon, maxHorizon    of a claim, and the limit above which nothing is judged
 use Prim.Native.Nat.{ℕ, zero, suc, _+_, _-_, _*_, _/_, min, max}
 use mathlib.Core.Bool.{Bool, true, false}
@@ -47,7 +50,8 @@ a increasedBy b = record { plus = a .plus + b .plus; minus = a .minus + b .minus
 abbrev pub raisedAt : (ℕ → ℕ) → ℕ → ℕ → ℕ → ℕ → ℕ → ℕ
 raisedAt f d c start count i = d * f (start + i) + c * (count - i)
 
--- the least or the greatest d*f(t) - c*t over start <= t < start + count, where count > 0. What each is raised by is subtracted again
+-- the least or the greatest d*f(t) - c*t over start <= t < start + count, where count > 0. What each is raised by is
+-- subtracted again
 unfoldable pub extremeOf : (ℕ → ℕ → ℕ) → (ℕ → ℕ) → ℕ → ℕ → ℕ → ℕ → Signed
 unfolding best
 extremeOf choose f d c start count = record {

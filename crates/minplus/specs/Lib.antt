@@ -1,4 +1,5 @@
--- The mathematics of document 01. First what is defined, in its order: a reader holds these beside it. Then what is proved.
+-- The mathematics of document 01. First what is defined, in its order: a reader holds these beside it. Then what is
+-- proved.
 pub mod Curve
 pub mod Conv
 pub mod Claim

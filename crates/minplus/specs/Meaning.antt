@@ -1,8 +1,9 @@
--- What a verdict says of its claim at every tick, without end. verdict-exact (Exact.antt) shows that the computed verdict is
--- the one verdict that says what is so.
+-- What a verdict says of its claim at every tick, without end. verdict-exact (Exact.antt) shows that the computed
+-- verdict is the one verdict that says what is so.
 --
 --     Rule c n      the claim's rule at one tick: the Claims table without its "at every tick"
---     Proper c      no curve of c has period 0: all that the theorems ask, and a well-formed claim is such (well-formed-proper)
+--     Proper c      no curve of c has period 0: all that the theorems ask, and a well-formed claim is such
+--                   (well-formed-proper)
 --     Tight c       kinds 5 and 7: X = 0, or X-1 fails at some tick
 --     Loose c       kinds 5 and 7: X > 0, and X-1 holds at every tick
 --     Meaning c v   the table of verdicts, over all ticks

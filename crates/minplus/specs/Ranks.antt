@@ -1,10 +1,12 @@
--- The rank theorems: from its rank R on, a sum, a minimum and a convolution of two curves gain the same amount over each D.
--- Source document 000 has them as its lemmas 3, 4 and 5; here they are proved on ticks, for document 01's R.
+-- The rank theorems: from its rank R on, a sum, a minimum and a convolution of two curves gain the same amount over
+-- each D. Source document 000 has them as its lemmas 3, 4 and 5; here they are proved on ticks, for document 01's R.
 --
 --     crossed           at and after N the slower curve of a minimum is below
---     split-crossed     at and after N a split that leaves f less than T ticks is no better than the one that leaves g T' ticks
+--     split-crossed     at and after N a split that leaves f less than T ticks is no better than the one that leaves g
+--                       T' ticks
 --     conv-gains        a convolution gains the smaller gain, where such splits are not needed
---     gainOver          what a curve gains over D (common-positive, common-comm, left-gains, right-gains); gain-le, gain-lt: the slower one gains less
+--     gainOver          what a curve gains over D (common-positive, common-comm, left-gains, right-gains); gain-le,
+--                       gain-lt: the slower one gains less
 --     by-rates          what holds in each of the three ways that two rates can stand
 --     gainOf, rank-gains     the gain over D, by combined, and the theorem for every operation
 use Prim.Native.Nat.{ℕ, _+_, _-_, _*_, _/_, _%_, _≤_, _<_, min, max}
@@ -41,8 +43,8 @@ first-period f positive m le =
       gained = ap (value f) (sym e) ∙ value-repeats f positive t k (omega arith);
     }
 
--- the arithmetic of both crossings: x and y are values in the first periods, X and Y those k and k' periods later, P and Q what a
--- split adds at the ticks s and u
+-- the arithmetic of both crossings: x and y are values in the first periods, X and Y those k and k' periods later, P
+-- and Q what a split adds at the ticks s and u
 uncross-scaled : (d d′ c c′ t t′ k k′ s u x y P Q : ℕ)
     → d′ * (d * x + d * P) + d * (c′ * t′ + c′ * u) + c * d′ * (t + k * d + s) ≤ d * (d′ * y + d′ * Q) + d′ * (c * t + c * s) + c′ * d * (t′ + k′ * d′ + u)
     → d * d′ * (x + k * c + P) ≤ d * d′ * (y + k′ * c′ + Q)

@@ -3,12 +3,15 @@
 --
 --     best choose h k   what choose keeps of h(0) to h(k), taken in order: never of an empty list
 --     best-next         one more number; best-same: it depends on those numbers alone
---     least h k         the least of h(0) to h(k): a lower bound of them (least-lower) that is one of them (least-attained)
+--     least h k         the least of h(0) to h(k): a lower bound of them (least-lower) that is one of them
+--                       (least-attained)
 --     greatest h k      the greatest of them, likewise (greatest-upper, greatest-attained)
---     firstBelow p k    the first n < k with p(n), if there is one; IsFirst says so (first-below); first-nowhere, first-at: the answer from what it would find
+--     firstBelow p k    the first n < k with p(n), if there is one; IsFirst says so (first-below); first-nowhere,
+--                       first-at: the answer from what it would find
 --     allBelow p k      p(n) for every n < k (all-below)
 --     both-true         two tests; true-unless, false-unless: a test that can't have the other answer
---     numbered number l k     the first of l that has the number k: it has it (numbered-so); none, if none has it (numbered-none)
+--     numbered number l k     the first of l that has the number k: it has it (numbered-so); none, if none has it
+--                             (numbered-none)
 use Prim.Native.Nat.{ℕ, zero, suc, _-_, _≤_, _<_, min, max}
 use mathlib.Core.Path.{_≡_, refl, sym, ap, _∙_, subst}
 use mathlib.Core.Bool.{Bool, true, false, _&&_, false≢true, true≢false}

@@ -1,10 +1,12 @@
 -- The verdict on a claim, computed by document 01's finite rule, and the numbers of its record.
 --
--- Document 01, 'Verdicts'. Nothing here speaks of ticks beyond the horizon: Exact.antt shows what a verdict says of them.
+-- Document 01, 'Verdicts'. Nothing here speaks of ticks beyond the horizon: Exact.antt shows what a verdict says of
+-- them.
 --
 --     Verdict, recordOf     the five verdicts; the Record of each: code, tick, left and right value
 --     leftAt, rightAt       the two values that the record of a refuted tick holds
---     breaks, tried         whether a tick breaks the rule; how many ticks, from 0 on, are tried; firstBreak: the first of them that does
+--     breaks, tried         whether a tick breaks the rule; how many ticks, from 0 on, are tried; firstBreak: the first
+--                           of them that does
 --     byRate, lessHolds     the tests of codes 3 and 4
 --     codesInOrder, verdict      the codes in their order
 use Prim.Native.Nat.{ℕ, suc, _-_}
@@ -70,7 +72,8 @@ unfoldable pub byRate : Claim → Bool
 byRate (equals op f g h) = false
 byRate (bounds δ t f g X) = slower g f
 
--- "kinds 5 and 7, X > 0 and X-1 is also a bound": no tick breaks it. Code 3 comes first, so the rates need no second look
+-- "kinds 5 and 7, X > 0 and X-1 is also a bound": no tick breaks it. Code 3 comes first, so the rates need no second
+-- look
 unfoldable pub lessHolds : Claim → Bool
 unfolding firstBreak
 lessHolds (equals op f g h) = false
@@ -78,7 +81,8 @@ lessHolds (bounds δ atMost f g X) = false
 lessHolds (bounds δ exactly f g X) =
     elim (ltb 0 X) [ true ↦ elim (firstBreak (bounds δ exactly f g (X - 1))) [ none ↦ true | some _ ↦ false ] | false ↦ false ]
 
--- "Tried in this order, a later one only if the earlier doesn't apply": too far, the first break, by rate, less holds too
+-- "Tried in this order, a later one only if the earlier doesn't apply": too far, the first break, by rate, less holds
+-- too
 unfoldable pub codesInOrder : Claim → Bool → Option ℕ → Bool → Bool → Verdict
 unfolding leftAt rightAt
 codesInOrder c true o rate less = notJudged

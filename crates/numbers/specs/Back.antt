@@ -1,9 +1,12 @@
 -- Reading and writing a number undo each other.
 --
---     Bytes s         every member of s is below 256: bytes-take, bytes-drop, bytes-none, bytes-append, bytes-flat; bytes-of: a number's bytes are
+--     Bytes s         every member of s is below 256: bytes-take, bytes-drop, bytes-none, bytes-append, bytes-flat;
+--                     bytes-of: a number's bytes are
 --     length-then     how long a number's bytes are with a list after them
---     number-on       what is read after a list is read of the rest; number-front, number-back: a number is read where its bytes stand
---     bytes-again     the bytes of a number that is read are those that stand there; bytes-then: and those after them go on
+--     number-on       what is read after a list is read of the rest; number-front, number-back: a number is read where
+--                     its bytes stand
+--     bytes-again     the bytes of a number that is read are those that stand there; bytes-then: and those after them
+--                     go on
 use Prim.Native.Nat.{ℕ, zero, suc, _+_, _*_, _^_, _/_, _%_, _≤_, _<_}
 use mathlib.Core.Path.{_≡_, refl, sym, ap, ap₂, subst, _∙_}
 use mathlib.Core.Bool.{Bool, true, false}

@@ -1,6 +1,7 @@
 -- Laws of lists that the kit's library lacks.
 --
---     forall-at       where all members are such, so is the one at a place; forall-more: and so are all with one such more
+--     forall-at       where all members are such, so is the one at a place; forall-more: and so are all with one such
+--                     more
 --     flat-more       a list for each member, one after the other, and one more
 --     length-zero     a list without a member
 use Prim.Native.Nat.{ℕ, zero, suc, _<_}

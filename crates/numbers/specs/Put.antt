@@ -3,7 +3,8 @@
 --     put s at t          s with t over it from place at on
 --     putWhole s at t     the same where all of t has room (put-fits), else s as it was (put-short)
 --     bytesOf w n         the w bytes of a number, high byte first; of a larger number its last w
---     bytes-back          read again they are the number; length-bytes: they are w; put-bytes: written from the last one on
+--     bytes-back          read again they are the number; length-bytes: they are w; put-bytes: written from the last
+--                         one on
 --     put-nothing, put-last, put-put     nothing, one byte more, one after the other
 --     length-put, drop-put               as many bytes as before, and those after it as they were
 use Prim.Native.Nat.{ℕ, zero, suc, _+_, _-_, _^_, _/_, _%_, _≤_, _<_}

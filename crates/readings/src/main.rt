@@ -1,4 +1,5 @@
-// The reader's answers on the books of data/. Standard input has the questions, a line each: a book's name; a name and a claim's number; a name, a curve's number and a tick.
+// The reader's answers on the books of data/. Standard input has the questions, a line each: a book's name; a name and
+// a claim's number; a name, a curve's number and a tick.
 use book::Book;
 use book::Outcome;
 use book::values::curve_value;

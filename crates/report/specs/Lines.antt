@@ -2,7 +2,8 @@
 --
 --     part w n            words and the number after them; lastPart: and the end of the line
 --     claimLine, totalLine, certifiedLine, refusedLine     the lines; claimLines: those of the first claims
---     verdictWords        a claim's line after `claim K`, by its record's numbers; wordsIn: by its record; refutedAt: code 2 (words-refuted)
+--     verdictWords        a claim's line after `claim K`, by its record's numbers; wordsIn: by its record; refutedAt:
+--                         code 2 (words-refuted)
 --     reportOf            the whole text
 --     reportIn            the same where the lent bytes have room for it, else nothing
 --     maxLine, maxWords   the length of the longest line, and of the longest verdictWords

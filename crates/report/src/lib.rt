@@ -111,8 +111,8 @@ fn refused_line(out: &mut [u8], refusal: u64, place: u64) -> usize
     put_last_part(out, after_refusal, b" at ", place)
 }
 
-// Where `out` has no room for as many lines of the longest kind, nothing is written and the answer is 0. A record that the verdict buffer
-// does not have reads as not judged.
+// Where `out` has no room for as many lines of the longest kind, nothing is written and the answer is 0. A record that
+// the verdict buffer does not have reads as not judged.
 pub fn report(answer: u64, verdicts: &[u8], out: &mut [u8]) -> usize
     ensures { λ r. ⌜ Counts r (now (out .exit)) ⌝ }
     ensures { λ r. ⌜ r ≡ length (reportIn (length (now (out .entry))) answer (now (verdicts .entry))) ⌝ }

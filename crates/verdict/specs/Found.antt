@@ -3,7 +3,8 @@
 --     tableAt         a table's value at a tick
 --     dueIn           kinds 1 to 3: the value that the claimed table has to have at a tick
 --     differs         it has another there
---     Searchable      every tried tick has a value in each of three tables, and over every split of one the sum fits 32 bits
+--     Searchable      every tried tick has a value in each of three tables, and over every split of one the sum fits 32
+--                     bits
 --     foundOf         the first of the tried ticks that passes a test, with the two values there (foundFrom, atTick)
 --     found-at        it is n, if no tick before n passes and n does
 --     found-nowhere   there is none, if no tried tick passes

@@ -3,7 +3,8 @@
 --     verdictOf             the verdict; no two of the code's are one (verdict-one-to-one)
 --     numbersOf             the numbers of a record
 --     judgedOf              the answer on a claim: a verdict, or none
---     judgement             what it has to be: none for a claim that is not well formed (judgement-none), else its verdict (judgement-some)
+--     judgement             what it has to be: none for a claim that is not well formed (judgement-none), else its
+--                           verdict (judgement-some)
 --     verdict-far           which is "not judged" beyond the limit,
 --     ordered, verdict-near     and within it goes by what the tests find, in the order of the codes
 use Prim.Native.Nat.{ℕ, _<_}

@@ -2,9 +2,11 @@
 --
 --     judged-exact        an answer that the contract of verdict_on allows is v exactly when Meaning says so of v
 --     is-verdict          it is the verdict of minplus, on a well-formed claim
---     judged-accepted     it is "accepted" exactly when the horizon is within the limit and the claim holds at every tick, without end
+--     judged-accepted     it is "accepted" exactly when the horizon is within the limit and the claim holds at every
+--                         tick, without end
 --
--- The hypotheses are met by every answer of verdict_on, whose contract the second one is, on a claim that keeps document 01's limits.
+-- The hypotheses are met by every answer of verdict_on, whose contract the second one is, on a claim that keeps
+-- document 01's limits.
 use mathlib.Core.Path.{_≡_, sym, _∙_}
 use mathlib.Core.Option.{some}
 use mathlib.Core.Logic.{_↔_}

@@ -32,9 +32,9 @@ pub(crate) enum Found {
     Nowhere,
 }
 
-// Kinds 1 to 3: the first of the `tried` ticks at which the due value differs from the claimed one.
-// A sum over a split fits 32 bits, so the least is sought at that width; a sum of two values at one tick need not fit.
-// Values are read through references: of what a reference shows the prover knows the range, of an element it has to be told.
+// Kinds 1 to 3: the first of the `tried` ticks at which the due value differs from the claimed one. A sum over a split
+// fits 32 bits, so the least is sought at that width; a sum of two values at one tick need not fit. Values are read
+// through references: of what a reference shows the prover knows the range, of an element it has to be told.
 fn first_difference(operation: Operation, f: &[u32], g: &[u32], h: &[u32], tried: usize) -> Found
     requires { ⌜ Searchable (now f) (now g) (now h) tried ⌝ }
     ensures { λ r. ⌜ r ≡ foundOf (differs operation (now (f .entry)) (now (g .entry)) (now (h .entry))) (dueIn operation (now (f .entry)) (now (g .entry))) (tableAt (now (h .entry))) tried ⌝ }

@@ -1,5 +1,5 @@
-// The worst-case convolution claim: its horizon is 4,096 and it is accepted, so that no split of no tick is left out. It is judged once
-// for each byte of standard input, at most 4,096 times. bench/ holds it against C.
+// The worst-case convolution claim: its horizon is 4,096 and it is accepted, so that no split of no tick is left out.
+// It is judged once for each byte of standard input, at most 4,096 times. bench/ holds it against C.
 ghost use Prim.Native.Nat.{_<_};
 use curve::Claim;
 use curve::Curve;
@@ -18,8 +18,8 @@ fn rising(first: u32) -> [u32; Curve::MAX_LISTED]
     values
 }
 
-// Each turn has other values, so that no turn's work can stand for another's. The curves are first + n, n and first + n: D and P are
-// 2,040 and R is 2,056.
+// Each turn has other values, so that no turn's work can stand for another's. The curves are first + n, n and first +
+// n: D and P are 2,040 and R is 2,056.
 fn accepted(turn: u64) -> bool {
     let first = (turn % 1000) as u32;
     let plain = rising(0);

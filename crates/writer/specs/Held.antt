@@ -1,10 +1,13 @@
 -- A field as the code writes it: tag and length, then number after number.
 --
 --     head-put             tag and length (headBytes)
---     version-put, curve-put, claim-put, end-put     a whole field, from what each step left; curve-room: a curve's values have room then
+--     version-put, curve-put, claim-put, end-put     a whole field, from what each step left; curve-room: a curve's
+--                                                    values have room then
 --     version-size, curve-size, claim-size, end-size     how many bytes it has
---     Filling              the values of a curve, as far as they are written: filling-none, filling-more, filling-all; filling-length: as many bytes as before
---     fault-is, moved-by   the tests and the new state, by the field's size; refused-return, taken-return: what is returned then
+--     Filling              the values of a curve, as far as they are written: filling-none, filling-more, filling-all;
+--                          filling-length: as many bytes as before
+--     fault-is, moved-by   the tests and the new state, by the field's size; refused-return, taken-return: what is
+--                          returned then
 use Prim.Native.Nat.{ℕ, _+_, _*_, _≤_, _<_}
 use mathlib.Core.Path.{_≡_, refl, sym, ap, ap₂, subst, _∙_}
 use mathlib.Core.Bool.{Bool, true, false}

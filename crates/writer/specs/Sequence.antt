@@ -1,16 +1,21 @@
 -- Calls of a writer one after the other: any calls whatever, taken or refused, and those that write a book.
 --
---     Desk             where the writing of a book stands: the writer, the lent bytes, and what the calls that were taken have said (entered, enteredOn)
---     step, afterCalls     one call (step-refused, step-taken) and a list of them, by Writing's `called` and `written`; opened, reached: from a writer that has not begun
+--     Desk             where the writing of a book stands: the writer, the lent bytes, and what the calls that were
+--                      taken have said (entered, enteredOn)
+--     step, afterCalls     one call (step-refused, step-taken) and a list of them, by Writing's `called` and `written`;
+--                          opened, reached: from a writer that has not begun
 --     textIn           the bytes before the writer's place; BookSays: they are a sound book that says this
 --     AllTaken         no call of the list is refused
 --     callsFor         the calls that write a book: begin, each curve, each claim, close
 --     Stage            what is written and what is said go together: nothing yet, a book without its end, a book
---     Written          what holds after any calls whatever (any-calls), of a writer that stands after a text (standing). So:
+--     Written          what holds after any calls whatever (any-calls), of a writer that stands after a text
+--                      (standing). So:
 --         closed-sound     what a closed writer has written is a sound book, and says what the calls said
---         open-ends        what an open one has written lacks only the end; begins-sound: and is always the beginning of a sound book
+--         open-ends        what an open one has written lacks only the end; begins-sound: and is always the beginning
+--                          of a sound book
 --         closed-stays     once closed, it stays
---     calls-write      a book within the limits is written by its calls, if it has room: all are taken, and they leave its bytes and no others
+--     calls-write      a book within the limits is written by its calls, if it has room: all are taken, and they leave
+--                      its bytes and no others
 --     written-and-read, read-and-written     and so read again; and a book that was read is written as it was
 --     closed-same      any calls that leave a closed book leave what its own calls do
 --     w8-stands, w8-short     document 01's book, computed, with room and with one byte too few

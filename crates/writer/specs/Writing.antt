@@ -1,6 +1,8 @@
--- One call of a writer. Document 01: "Writing goes by begin, add curve, add claim, close. Each call may refuse with 3, 4, then 7, 6 (the list isn't T+d values), 8, 9 for a curve or
--- 10, 11, 12 for a claim, and last 14, given exactly when too few bytes remain for this field; bytes and state then stay. A writer's refusal is a number without a place. A call that
--- is taken writes the field's bytes after those before and no others. An unknown kind is 10. Closed books take nothing more: 3."
+-- One call of a writer. Document 01: "Writing goes by begin, add curve, add claim, close. Each call may refuse with 3,
+-- 4, then 7, 6 (the list isn't T+d values), 8, 9 for a curve or 10, 11, 12 for a claim, and last 14, given exactly when
+-- too few bytes remain for this field; bytes and state then stay. A writer's refusal is a number without a place. A
+-- call that is taken writes the field's bytes after those before and no others. An unknown kind is 10. Closed books
+-- take nothing more: 3."
 --
 --     Call             the four calls with their arguments; callTag, callContent, callField: the field that one writes
 --     fresh            a writer before it has begun

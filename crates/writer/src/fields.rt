@@ -56,7 +56,8 @@ fn first(fault: Checked, later: Checked) -> Checked
     }
 }
 
-// Document 01's order: a field's turn and count, then what is said of its arguments, and last its room. All are looked at, and the first refusal counts.
+// Document 01's order: a field's turn and count, then what is said of its arguments, and last its room. All are looked
+// at, and the first refusal counts.
 pub(crate) fn admitted(
     writer: Writer,
     tag: Tag,

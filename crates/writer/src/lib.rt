@@ -7,7 +7,8 @@ use field::State;
 pub mod calls;
 pub mod fields;
 
-// Where a writer stands. The state is that of a reader of what is written so far: its place is where the next field goes.
+// Where a writer stands. The state is that of a reader of what is written so far: its place is where the next field
+// goes.
 pub struct Writer {
     pub state: State,
     pub closed: bool,

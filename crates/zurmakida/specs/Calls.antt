@@ -1,9 +1,13 @@
--- The four calls as C makes them, one after the other: the state is a number, 0 before the first call, and each call is passed the state that the call before it answered.
+-- The four calls as C makes them, one after the other: the state is a number, 0 before the first call, and each call is
+-- passed the state that the call before it answered.
 --
---     Held, calledFrom, heldAfter     a state and the lent bytes, after one call and after a list of them; heldFrom: from state 0
+--     Held, calledFrom, heldAfter     a state and the lent bytes, after one call and after a list of them; heldFrom:
+--                                     from state 0
 --     kept-after       whatever the calls, a writer's parts have room in the number
---     state-calls      so the numbers go as the writer goes: what any-calls and the theorems after it say of calls one after the other holds of C's
---     closed-book      for one spelled out: once the state says closed, the bytes written are a sound book, and say what the taken calls said
+--     state-calls      so the numbers go as the writer goes: what any-calls and the theorems after it say of calls one
+--                      after the other holds of C's
+--     closed-book      for one spelled out: once the state says closed, the bytes written are a sound book, and say
+--                      what the taken calls said
 --     w8-held          W8 from state 0 by its five calls: a closed state with 59 bytes written
 use Prim.Native.Nat.{ℕ, _+_, _*_, _%_, _^_, _≤_, _<_}
 use mathlib.Core.Path.{_≡_, refl, sym, ap, ap₂, subst, _∙_}

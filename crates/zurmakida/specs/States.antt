@@ -1,8 +1,10 @@
 -- A writer's state as one number, for C.
 --
 --     stateOf        bytes written + 2^16 * claims + 2^32 * curves + 2^40 * version + 2^47 if it is closed
---     writerOf       the writer of any number: one with a bit above those, or with more bytes than a book can have, takes nothing more (takesNothing)
---     answered       a call's answer as C gets it: "A writer's refusal is a number without a place", and the state stays (answeredOn)
+--     writerOf       the writer of any number: one with a bit above those, or with more bytes than a book can have,
+--                    takes nothing more (takesNothing)
+--     answered       a call's answer as C gets it: "A writer's refusal is a number without a place", and the state
+--                    stays (answeredOn)
 --     Kept           a writer whose parts have room in the number; state-back: it is the writer of its number
 --     fresh-back     0 is the state before the first call
 use Prim.Native.Nat.{ℕ, _+_, _*_, _/_, _%_, _^_, _≤_, _<_}

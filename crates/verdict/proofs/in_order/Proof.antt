@@ -1,4 +1,5 @@
--- `verdict::in_order` meets its contract: `verdict-near`, at what the tests on the way found. A test that is not reached is handed on as it stands.
+-- `verdict::in_order` meets its contract: `verdict-near`, at what the tests on the way found. A test that is not
+-- reached is handed on as it stands.
 use mathlib.Core.Path.{_≡_, refl, sym, _∙_}
 use mathlib.Core.Bool.{Bool, true, false}
 use borrow.Author.Needs.{needs}

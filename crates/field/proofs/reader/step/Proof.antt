@@ -1,5 +1,8 @@
--- `field::reader::step` meets its contract: a walk of its MIR, by hand. The reader that `Reader::at` returns is held in a local and passed to `Reader::next`. All that the proof knows of the two is that each meets its contract.
--- The machine value that `at` returns is stored and passed on as it is. In a local of a body MIR erases the lifetime of the reader's type, so the value is shown to have the type at `erased`: what the reader owns does not say the lifetime's name.
+-- `field::reader::step` meets its contract: a walk of its MIR, by hand. The reader that `Reader::at` returns is held in
+-- a local and passed to `Reader::next`. All that the proof knows of the two is that each meets its contract. The
+-- machine value that `at` returns is stored and passed on as it is. In a local of a body MIR erases the lifetime of the
+-- reader's type, so the value is shown to have the type at `erased`: what the reader owns does not say the lifetime's
+-- name.
 use mathlib.Core.Path.{_≡_, refl, ap, _∙_}
 use Prim.Native.Nat.{ℕ}
 use mathlib.Core.List.{List, [], _∷_}

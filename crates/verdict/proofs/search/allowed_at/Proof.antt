@@ -1,4 +1,5 @@
--- `verdict::search::allowed_at` meets its contract. Both sums fit, since the tick and X are within their limits and the curve is well formed.
+-- `verdict::search::allowed_at` meets its contract. Both sums fit, since the tick and X are within their limits and the
+-- curve is well formed.
 use native.Mathlib.Omega.{arith}
 use borrow.Author.Needs.{needs}
 use Rattle.minplus.specs.Claim.{allowed}

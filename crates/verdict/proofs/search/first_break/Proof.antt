@@ -1,4 +1,5 @@
--- `verdict::search::first_break` meets its contract. In each arm the claim is rewritten to its kind, in what is known and in what is to be shown.
+-- `verdict::search::first_break` meets its contract. In each arm the claim is rewritten to its kind, in what is known
+-- and in what is to be shown.
 use mathlib.Core.Path.{_∙_}
 use native.Mathlib.Omega.{arith}
 use borrow.Author.Needs.{needs}

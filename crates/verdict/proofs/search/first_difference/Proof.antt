@@ -1,5 +1,6 @@
--- `verdict::search::first_difference` meets its contract. A turn of the outer loop has found nothing yet, since no tick before n differs; the inner loop's
--- invariant is `LeastBefore`. Where the operations' arms meet, `due-is` says what `due` is, once for all that follows.
+-- `verdict::search::first_difference` meets its contract. A turn of the outer loop has found nothing yet, since no tick
+-- before n differs; the inner loop's invariant is `LeastBefore`. Where the operations' arms meet, `due-is` says what
+-- `due` is, once for all that follows.
 use Prim.Native.Nat.{ℕ, _+_, _-_, _≤_, _<_}
 use mathlib.Core.Path.{_≡_, refl, sym, _∙_}
 use mathlib.Core.Bool.{false}

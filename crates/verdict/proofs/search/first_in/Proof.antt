@@ -1,4 +1,5 @@
--- `verdict::search::first_in` meets its contract: the three tables hold the curves' values, and so the search in them finds the claim's first break.
+-- `verdict::search::first_in` meets its contract: the three tables hold the curves' values, and so the search in them
+-- finds the claim's first break.
 use borrow.Author.Needs.{needs}
 use denote.Ref.{now}
 use Rattle.verdict.proofs.Tables.{judged-break, judged-searchable}

@@ -1,4 +1,5 @@
--- `verdict::search::first_over` meets its contract. A turn has found nothing yet, since no tick before s breaks the rule.
+-- `verdict::search::first_over` meets its contract. A turn has found nothing yet, since no tick before s breaks the
+-- rule.
 use Prim.Native.Nat.{ℕ, _-_, _≤_, _<_}
 use mathlib.Core.Path.{_≡_, refl, _∙_}
 use mathlib.Core.Bool.{false}

@@ -1,5 +1,6 @@
--- `field::reader::Reader::at` meets its contract: a walk of its MIR, by hand. A reader is made of the book and the state passed, in the result's local.
--- Both parameters are Copy, so what they own is had twice: once for the exit, and once inside the reader, whose fields they are in their order.
+-- `field::reader::Reader::at` meets its contract: a walk of its MIR, by hand. A reader is made of the book and the
+-- state passed, in the result's local. Both parameters are Copy, so what they own is had twice: once for the exit, and
+-- once inside the reader, whose fields they are in their order.
 use mathlib.Core.Path.{refl}
 use Prim.Native.Nat.{ℕ}
 use mathlib.Core.List.{List, [], _∷_}

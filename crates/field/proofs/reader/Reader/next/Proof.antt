@@ -1,5 +1,7 @@
--- `field::reader::Reader::next` meets its contract: a walk of its MIR, by hand. The reader is taken apart, and `field_at` is called on its book and its state. All that the proof knows of `field_at` is that it meets its contract.
--- The reader is Copy: what it owns is had twice, and one copy is kept whole for the exit. The callee takes the two fields in their order, so what they own together is what it asks. The lifetime's token goes to it, and comes back.
+-- `field::reader::Reader::next` meets its contract: a walk of its MIR, by hand. The reader is taken apart, and
+-- `field_at` is called on its book and its state. All that the proof knows of `field_at` is that it meets its contract.
+-- The reader is Copy: what it owns is had twice, and one copy is kept whole for the exit. The callee takes the two
+-- fields in their order, so what they own together is what it asks. The lifetime's token goes to it, and comes back.
 use mathlib.Core.Path.{_≡_, refl}
 use mathlib.Core.List.{[], _∷_}
 use lib.Dec.{T as Holds}
