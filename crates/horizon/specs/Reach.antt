@@ -26,7 +26,7 @@ use Rattle.minplus.specs.Curve as C
 use Rattle.minplus.specs.Ranks.{common-comm, by-rates}
 use Rattle.minplus.specs.Claim as M
 use Rattle.minplus.specs.Horizon as H
-use Rattle.minplus.specs.Crossing.{Slower}
+use Rattle.minplus.specs.Horizon.{Slower}
 use Rattle.horizon.specs.declared.crossing.Signed.{Signed}
 use Rattle.horizon.specs.declared.Horizon.{Horizon}
 use Rattle.horizon.specs.declared.Horizon.the-variants.{At, IllFormed}

@@ -30,8 +30,8 @@ use Rattle.minplus.specs.Claim.{kindBy, Kind, Claim, Claimed, WellFormedClaim, 
 use Rattle.minplus.specs.Conv.{conv, conv-below, conv-attained}
 use Rattle.minplus.specs.Horizon.{horizon, maxHorizon}
 use Rattle.minplus.specs.Verdict.{Record, Verdict, accepted, refutedAt, refutedByRate, notLeast, notJudged, recordOf, verdict, leftAt, rightAt, tried}
-use Rattle.minplus.specs.Meaning.{Meaning, Rule, Loose, well-formed-proper}
-use Rattle.minplus.specs.Exact.{verdict-exact, accepted-exactly}
+use Rattle.minplus.specs.Meaning.{Meaning, Proper, Rule, Loose, Outpaced, well-formed-proper}
+use Rattle.minplus.specs.Exact.{verdict-exact, accepted-exactly, rate-exactly}
 use Rattle.curve.specs.Filled.{listOf}
 use Rattle.content.specs.declared.Refusal.{Refusal}
 use Rattle.content.specs.declared.Refusal.the-variants.{Torn, UnknownTag, OutOfOrder, TooMany, WrongVersion, CurveLength, CurvePeriod, TooManyUnits, CurveFalls, WrongClaim, NoSuchCurve, TooLarge, WrongEnd, NoRoom, BookTooLong}
@@ -63,8 +63,10 @@ pub record Says (c : Claim) (r : Record) : Type 0 where
   -- are the values there
   pub code-2 : (r .code ≡ 2)
       ↔ ((horizon c ≤ maxHorizon) × (r .tick < tried c) × ((m : ℕ) → m < r .tick → Rule c m) × (¬ (Rule c (r .tick))) × (r .left ≡ leftAt c (r .tick)) × (r .right ≡ rightAt c (r .tick)))
-  -- refuted by rate: exactly when no tried tick breaks the rule, and some later one does
-  pub code-3 : (r .code ≡ 3) ↔ ((horizon c ≤ maxHorizon) × ((n : ℕ) → n < tried c → Rule c n) × ((n : ℕ) × (¬ (Rule c n))))
+  -- refuted by rate: exactly when no tried tick breaks the rule and, in kinds 4 to 7, c*d' > c'*d; which says exactly
+  -- that no tried tick breaks the rule, and some later one does
+  pub code-3 : (r .code ≡ 3) ↔ ((horizon c ≤ maxHorizon) × ((n : ℕ) → n < tried c → Rule c n) × Outpaced c)
+  pub code-3-later : (r .code ≡ 3) ↔ ((horizon c ≤ maxHorizon) × ((n : ℕ) → n < tried c → Rule c n) × ((n : ℕ) × (¬ (Rule c n))))
   -- refuted, not least: exactly when X is a bound at every tick, and X > 0 and X-1 is one too
   pub code-4 : (r .code ≡ 4) ↔ ((horizon c ≤ maxHorizon) × ((n : ℕ) → Rule c n) × Loose c)
   -- not judged: exactly when the horizon is above the limit
@@ -145,22 +147,27 @@ module _ (c : Claim) (well : WellFormedClaim c) where
   abbrev r : Record
   r = recordOf (verdict c)
 
-  meant : (k : ℕ) → (v : Verdict) → v ≡ verdictBy k r → recordOf v .code ≡ k → (r .code ≡ k) ↔ Meaning c v
-  meant k v is code =
-      let exact = verdict-exact c (well-formed-proper c well) v in
+  abbrev proper : Proper c
+  proper = well-formed-proper c well
+
+  -- a code says what its verdict says
+  meant : {M : Type 0} (k : ℕ) (v : Verdict) → v ≡ verdictBy k r → recordOf v .code ≡ k → (verdict c ≡ v) ↔ M → (r .code ≡ k) ↔ M
+  meant k v is code exact =
       (λ e. exact .0 (by-code (verdict c) k e ∙ sym is), λ m. ap (λ (w : Verdict). recordOf w .code) (exact .1 m) ∙ code)
+
+  named : (v : Verdict) → (verdict c ≡ v) ↔ Meaning c v
+  named = verdict-exact c proper
 
   verdict-says : Says c r
   unfolding verdictBy recordOf
   verdict-says = record {
     code-known = known (verdict c);
-    code-1 =
-        let exact = accepted-exactly c (well-formed-proper c well) in
-        (λ e. exact .0 (by-code (verdict c) 1 e), λ m. ap (λ (w : Verdict). recordOf w .code) (exact .1 m));
-    code-2 = meant 2 (refutedAt (r .tick) (r .left) (r .right)) refl refl;
-    code-3 = meant 3 refutedByRate refl refl;
-    code-4 = meant 4 notLeast refl refl;
-    code-5 = meant 5 notJudged refl refl;
+    code-1 = meant 1 accepted refl refl (accepted-exactly c proper);
+    code-2 = meant 2 (refutedAt (r .tick) (r .left) (r .right)) refl refl (named _);
+    code-3 = meant 3 refutedByRate refl refl (rate-exactly c proper);
+    code-3-later = meant 3 refutedByRate refl refl (named _);
+    code-4 = meant 4 notLeast refl refl (named _);
+    code-5 = meant 5 notJudged refl refl (named _);
     else-zero = zeros (verdict c);
   }
     where

@@ -4,7 +4,6 @@
 --     In start count      a tick t with start <= t < start + count
 --     Greatest, Least     a signed number is the greatest or the least p(i) - q(i) over all i: a bound of them that is
 --                         one of them
---     Slower f g          c*d' < c'*d
 --     Crossed             d'*A - d*B <= (c'*d - c*d')*n, with each A = p - q and B = p' - q' put in and what is
 --                         subtracted moved across; SplitCrossed: the same with A and B increased
 --     minimumN-law        N of a minimum; convolutionN-law: of a convolution, at T = 0 too
@@ -15,13 +14,10 @@ use native.Mathlib.Omega.{arith}
 use native.Mathlib.Nat.{sub-add-cancel, add-sub-of-le, div-lt-iff-lt-mul, mul-le-mul-left, le-antisymm, le-refl}
 use Rattle.minplus.specs.Search.{greatest, least, greatest-upper, least-lower, greatest-attained, least-attained}
 use Rattle.minplus.specs.Curve.{Curve, value}
-use Rattle.minplus.specs.Horizon.{Signed, raisedAt, extremeOf, highest, lowest, earliest, roundedUp, crossing, begunAt, minimumN, convolutionN, _increasedBy_}
+use Rattle.minplus.specs.Horizon.{Signed, Slower, raisedAt, extremeOf, highest, lowest, earliest, roundedUp, crossing, begunAt, minimumN, convolutionN, _increasedBy_}
 
 abbrev pub In : ℕ → ℕ → Type 0
 In start count = (t : ℕ) × (start ≤ t) × (t < start + count)
-
-abbrev pub Slower : Curve → Curve → Type 0
-Slower f g = f .increment * g .period < g .increment * f .period
 
 -- d'*A - d*B <= (c'*d - c*d')*n for A = d*f(t) - c*t and B = d'*g(t') - c'*t', with what is subtracted moved across
 abbrev pub Crossed : Curve → Curve → (n t t′ : ℕ) → Type 0

@@ -3,14 +3,15 @@
 --     verdict-exact       the verdict on c is v exactly when Meaning c v: every verdict, every kind
 --     verdict-one         two verdicts that Meaning allows are one
 --     accepted-exactly    code 1 exactly when the horizon is at most 4,096 and what is claimed is so
+--     rate-exactly        code 3 exactly when the horizon is at most 4,096, no tried tick breaks the rule and c*d' > c'*d
 --     backlog-exact       kind 7 claims the vertical deviation
 --     results-judged      kinds 1 to 3 within 4,096: accepted and equal at every tick, or the first tick that differs
 --                         is named with both values
 --     refuted-exactly     so there code 2 is given exactly when h and the due value differ somewhere
---     (codes 5, 3 and 4, and what code 2 names, are verdict-exact as it stands)
+--     (codes 5 and 4, what code 3 says of later ticks and what code 2 names are verdict-exact as it stands)
 --
 -- Before them: a tick's test and its rule (rule-kept, rule-broken), from the tried ticks to every tick (results-agree,
--- tried-enough, rate-outpaced), and what each test on the way to a verdict tells (break-none, break-at, break-found,
+-- tried-enough, rate-outpaced, rate-due), and what each test on the way to a verdict tells (break-none, break-at, break-found,
 -- less-means).
 use Prim.Native.Nat.{ℕ, _+_, _-_, _≤_, _<_, max}
 use mathlib.Core.Path.{_≡_, refl, sym, ap, _∙_, subst}
@@ -26,7 +27,7 @@ use Rattle.minplus.specs.Curve.{Curve, value, value-gains}
 use Rattle.minplus.specs.Divisor.{lcm, lcm-left, lcm-positive, lcm-right}
 use Rattle.minplus.specs.Gains.{Gains, below-forever, equal-forever, gains-later, gains-multiple, outgrows}
 use Rattle.minplus.specs.Horizon.{commonPeriod, fullPeriod, horizon, lastRank, maxHorizon, rankOf}
-use Rattle.minplus.specs.Meaning.{Loose, Meaning, Proper, Rule, Tight}
+use Rattle.minplus.specs.Meaning.{Loose, Meaning, Outpaced, Proper, Rule, Tight}
 use Rattle.minplus.specs.Ranks.{common-positive, gainOver, gain-le, gain-lt, left-gains, rank-gains, right-gains}
 use Rattle.minplus.specs.Search.{IsFirst, first-at, first-below, first-nowhere, firstBelow, nowhere, somewhere, true-unless, false-unless}
 use Rattle.minplus.specs.Verdict.{Verdict, accepted, breaks, byRate, firstBreak, codesInOrder, leftAt, lessHolds, notJudged, notLeast, refutedAt, refutedByRate, rightAt, tried, verdict}
@@ -91,6 +92,10 @@ rate-outpaced (bounds δ t f g X) p e =
     let both = bound-gains δ f g X (p .0) (p .1) in
     let at = outgrows (both .0) (both .1) (gain-lt f g (p .0) (p .1) (ltb-true _ _ e)) in
     (at .0, not-le-of-lt (at .1))
+
+-- and only such a one breaks the rule where no tried tick does
+rate-due : (c : Claim) → Proper c → ((n : ℕ) → n < tried c → Rule c n) → (n : ℕ) × (¬ (Rule c n)) → byRate c ≡ true
+rate-due c p all at = true-unless (byRate c) (λ slow. at .1 (tried-enough c p slow all (at .0)))
 
 -- ---- what each test on the way to a verdict tells
 
@@ -176,11 +181,7 @@ verdict-meant c p accepted m =
 verdict-meant c p (refutedAt tick left right) m =
     rw (le-ltb maxHorizon (horizon c) (m .0), break-at c tick (m .1) (m .2) (m .3), m .4, m .5)
 verdict-meant c p refutedByRate m =
-    rw (
-      le-ltb maxHorizon (horizon c) (m .0),
-      break-none c (m .1),
-      true-unless (byRate c) (λ e. let at = m .2 in at .1 (tried-enough c p e (m .1) (at .0))),
-    )
+    rw (le-ltb maxHorizon (horizon c) (m .0), break-none c (m .1), rate-due c p (m .1) (m .2))
 verdict-meant c p notLeast m =
     rw (le-ltb maxHorizon (horizon c) (m .0), break-none c (λ n lt. m .1 n), rate-kept c p (m .1), less-settled c p (m .1) true (m .2))
 verdict-meant c p notJudged m = rw (lt-ltb maxHorizon (horizon c) m)
@@ -215,6 +216,19 @@ accepted-exactly c p =
     let e = verdict-exact c p accepted in (
       λ v. let m = e .0 v in (m .0, claimed c p .1 (m .1, m .2)),
       λ t. let m = claimed c p .0 (t .1) in e .1 (t .0, m .0, m .1),
+    )
+
+rate-told : (c : Claim) → (byRate c ≡ true) ↔ Outpaced c
+unfolding byRate
+rate-told (equals op f g h) = (λ e. absurd (false≢true e), λ none. absurd none)
+rate-told (bounds δ t f g X) = (ltb-true _ _, lt-ltb _ _)
+
+pub rate-exactly : (c : Claim) → Proper c
+    → (verdict c ≡ refutedByRate) ↔ ((horizon c ≤ maxHorizon) × ((n : ℕ) → n < tried c → Rule c n) × Outpaced c)
+rate-exactly c p =
+    let e = verdict-exact c p refutedByRate in (
+      λ v. let m = e .0 v in (m .0, m .1, rate-told c .0 (rate-due c p (m .1) (m .2))),
+      λ t. e .1 (t .0, t .1, rate-outpaced c p (rate-told c .1 (t .2))),
     )
 
 -- kind 7 claims the vertical deviation

@@ -14,22 +14,24 @@ use mathlib.Core.Bool.{Bool, false, true}
 use mathlib.Core.List.{List, [], _∷_, map}
 use mathlib.Core.Path.{_≡_, ap, refl, sym, _∙_}
 use native.Mathlib.Omega.{arith}
-use Rattle.minplus.specs.Claim.{Claim, Claimed, atMost, backlog, bounds, convolution, delay, due, equals, exactly, kindNumber, kindOf, minimum, sum}
+use Rattle.minplus.specs.Claim.{Claim, Claimed, atMost, backlog, bounds, convolution, delay, due, equals, exactly, kindNumber, kindOf, minimum, sum, wellFormedClaim}
 use Rattle.minplus.specs.Conv.{conv}
 use Rattle.minplus.specs.Curve.{Curve, WellFormed, value, well-formed, wellFormed}
 use Rattle.minplus.specs.Exact.{accepted-exactly}
 use Rattle.minplus.specs.Horizon.{horizon, minimumN}
 use Rattle.minplus.specs.Meaning.{well-formed-proper}
 use Rattle.minplus.specs.Ranks.{crossed}
-use Rattle.minplus.specs.Verdict.{Verdict, accepted, notJudged, notLeast, recordOf, refutedAt, refutedByRate, verdict}
+use Rattle.minplus.specs.Verdict.{Verdict, accepted, notJudged, notLeast, recordOf, refutedAt, refutedByRate, tried, verdict}
 
 data Question : Type 0 where
   valueOf : Curve → ℕ → Question
   horizonOf : Claim → Question
+  triedOf : Claim → Question
   verdictOf : Claim → Question
   recorded : Claim → Question
   kindOfClaim : Claim → Question
   formed : Curve → Question
+  formedClaim : Claim → Question
 
 data Answer : Type 0 where
   number : ℕ → Answer
@@ -38,13 +40,15 @@ data Answer : Type 0 where
   truth : Bool → Answer
 
 answer : Question → Answer
-unfolding value horizon verdict recordOf kindNumber kindOf wellFormed
+unfolding value horizon tried verdict recordOf kindNumber kindOf wellFormed wellFormedClaim
 answer (valueOf f n) = number (value f n)
 answer (horizonOf c) = number (horizon c)
+answer (triedOf c) = number (tried c)
 answer (verdictOf c) = judged (verdict c)
 answer (recorded c) = let r = recordOf (verdict c) in fields (r .code) (r .tick) (r .left) (r .right)
 answer (kindOfClaim c) = number (kindNumber (kindOf c))
 answer (formed f) = truth (wellFormed f)
+answer (formedClaim c) = truth (wellFormedClaim c)
 
 record Row : Type 0 where
   asked : Question
@@ -97,13 +101,26 @@ steep : Curve
 unfolding curve
 steep = curve 3 1 2 (10 ∷ 10 ∷ 10 ∷ 10 ∷ [])
 
+-- ranks 1 and 2, periods 4 and 6, all 0; with the rank and period of the first, one unit a tick
+four : Curve
+unfolding flat
+four = flat 1 4 0
+
+six : Curve
+unfolding flat
+six = flat 2 6 0
+
+rising : Curve
+unfolding curve
+rising = curve 1 4 4 (0 ∷ 1 ∷ 2 ∷ 3 ∷ 4 ∷ [])
+
 -- 0, 10, 1, 11 and so on: the listed values rise, and the curve falls at the seam of its period
 seam : Curve
 unfolding curve
 seam = curve 0 2 1 (0 ∷ 10 ∷ [])
 
 table : List Row
-unfolding _is_ flat A B S minAB convAB line late steep seam
+unfolding _is_ flat A B S minAB convAB line late steep four six rising seam
 table =
     -- W1
     valueOf A 5 is number 8
@@ -167,7 +184,41 @@ table =
     ∷ horizonOf (equals convolution steep late (flat 0 1 0)) is number 7
     -- rates 1/2 and 2/3, both 0 in whole numbers
     ∷ horizonOf (equals minimum (curve 0 2 1 (0 ∷ 0 ∷ [])) (curve 0 3 2 (0 ∷ 0 ∷ 0 ∷ [])) (flat 0 1 0)) is number 14
-    -- P has h's period too; kinds 4 to 7 have max(T,T')+D
+    -- a sum has no N
+    ∷ horizonOf (equals sum A B (flat 0 1 0)) is number 3
+    -- and N where the slower curve stands on the right
+    ∷ horizonOf (equals minimum B A (flat 0 1 0)) is number 8
+    -- R, P and what is tried, part by part. Of the periods 4 and 6 D is 12, not their product, and P is 60 with h's 10;
+    -- ticks 0 to K+P are tried, the last one included
+    ∷ triedOf (equals sum four six (flat 0 10 0)) is number 63
+    ∷ triedOf (equals minimum four six (flat 0 10 0)) is number 63
+    ∷ triedOf (equals convolution four six (flat 0 10 0)) is number 76
+    -- the left curve's rank is the greater one
+    ∷ horizonOf (equals sum six four (flat 0 10 0)) is number 62
+    ∷ horizonOf (equals minimum six four (flat 0 10 0)) is number 62
+    -- the same where rates differ and N is at most 1: R has D there too
+    ∷ horizonOf (equals minimum rising six (flat 0 10 0)) is number 62
+    ∷ horizonOf (equals convolution rising six (flat 0 10 0)) is number 75
+    -- K is h's rank where that is the greater one, and R is not added to it
+    ∷ horizonOf (equals sum four six (flat 20 10 0)) is number 80
+    ∷ horizonOf (equals minimum four six (flat 20 10 0)) is number 80
+    ∷ horizonOf (equals convolution four six (flat 20 10 0)) is number 80
+    -- kinds 4 to 7 have max(T,T')+D, whichever rank is the greater one and whatever X is
+    ∷ horizonOf (bounds delay atMost four six 1_000) is number 14
+    ∷ horizonOf (bounds delay exactly four six 1_000) is number 14
+    ∷ horizonOf (bounds backlog atMost four six 1_000) is number 14
+    ∷ horizonOf (bounds backlog exactly four six 1_000) is number 14
+    ∷ horizonOf (bounds delay exactly six four 0) is number 14
+    ∷ horizonOf (bounds backlog atMost six four 0) is number 14
+    ∷ horizonOf (bounds backlog exactly six four 0) is number 14
+    -- the last tick below it is tried, and the tick at it is not: code 2 in the first two of these, then code 3
+    ∷ verdictOf (bounds delay atMost (curve 1 1 0 (0 ∷ 1 ∷ [])) (flat 0 1 0) 0) is judged (refutedAt 1 1 0)
+    ∷ verdictOf (bounds delay exactly (curve 1 1 0 (0 ∷ 1 ∷ [])) (flat 0 1 0) 0) is judged (refutedAt 1 1 0)
+    ∷ verdictOf (bounds delay atMost (curve 0 1 2 (0 ∷ [])) line 0) is judged refutedByRate
+    ∷ verdictOf (bounds delay exactly (curve 0 1 2 (0 ∷ [])) line 0) is judged refutedByRate
+    ∷ verdictOf (bounds backlog atMost (curve 0 1 2 (0 ∷ [])) line 0) is judged refutedByRate
+    ∷ verdictOf (bounds backlog exactly (curve 0 1 2 (0 ∷ [])) line 0) is judged refutedByRate
+    -- P has h's period too; kinds 4 to 7 have no h
     ∷ horizonOf (equals sum S S (flat 0 2 0)) is number 6
     ∷ horizonOf (bounds delay atMost B S 7) is number 5
     -- a horizon of 4,096 is judged, one of 4,097 is not, though its tick 0 differs
@@ -177,8 +228,25 @@ table =
     ∷ verdictOf (bounds backlog atMost (curve 0 1 2 (5 ∷ [])) line 4) is judged (refutedAt 0 5 4)
     ∷ verdictOf (bounds delay exactly B A 5) is judged refutedByRate
     -- equal rates are not refuted by rate; X = 0 has no X-1, also where f is below g throughout
+    ∷ verdictOf (bounds delay atMost A A 0) is judged accepted
+    ∷ verdictOf (bounds backlog atMost A A 0) is judged accepted
     ∷ verdictOf (bounds delay exactly A A 0) is judged accepted
     ∷ verdictOf (bounds backlog exactly (flat 0 1 0) A 0) is judged accepted
+    -- X-1 is asked for X = 1 too, and it is X-1; of kinds 4 and 6 it is not asked
+    ∷ verdictOf (bounds delay exactly (flat 0 1 0) (flat 0 1 0) 1) is judged notLeast
+    ∷ verdictOf (bounds backlog exactly (flat 0 1 0) (flat 0 1 0) 1) is judged notLeast
+    ∷ verdictOf (bounds backlog exactly A B 6) is judged notLeast
+    ∷ verdictOf (bounds delay atMost A B 4) is judged accepted
+    ∷ verdictOf (bounds backlog atMost A B 6) is judged accepted
+    -- the first of two ticks is named, with its values, and for kinds 5 and 7 those of X itself
+    ∷ verdictOf (bounds delay exactly A B 2) is judged (refutedAt 1 4 2)
+    ∷ verdictOf (bounds backlog atMost A B 3) is judged (refutedAt 1 4 3)
+    ∷ verdictOf (bounds backlog exactly A B 3) is judged (refutedAt 1 4 3)
+    -- an h above the due value and one below it
+    ∷ verdictOf (equals minimum A B line) is judged (refutedAt 1 0 1)
+    ∷ verdictOf (equals sum A B (flat 0 1 0)) is judged (refutedAt 1 4 0)
+    ∷ verdictOf (equals minimum A B (flat 0 1 0)) is judged (refutedAt 3 2 0)
+    ∷ verdictOf (equals convolution A B (flat 0 1 0)) is judged (refutedAt 3 2 0)
     -- a curve that falls at its seam
     ∷ valueOf seam 2 is number 1
     ∷ verdictOf (equals sum seam seam (curve 0 2 2 (0 ∷ 20 ∷ []))) is judged accepted
@@ -187,7 +255,8 @@ table =
     ∷ verdictOf (bounds delay atMost seam seam 1) is judged (refutedAt 1 10 1)
     -- a horizon of some sixteen million: no tick is tried
     ∷ verdictOf (equals convolution (flat 0 256 0) (flat 0 255 0) (flat 0 253 0)) is judged notJudged
-    -- the limits of a curve, each at its edge and one beyond; the last listed value is looked at too, the seam is not
+    -- the limits of a curve, each at its edge and one beyond; the first and the last pair of listed values are looked
+    -- at too, the seam is not
     ∷ formed (flat 0 256 1_000_000) is truth true
     ∷ formed (flat 1 256 0) is truth false
     ∷ formed (flat 1 0 0) is truth false
@@ -195,8 +264,13 @@ table =
     ∷ formed (curve 0 1 1_000_000 (0 ∷ [])) is truth true
     ∷ formed (curve 0 1 1_000_001 (0 ∷ [])) is truth false
     ∷ formed (curve 0 1 0 (0 ∷ 0 ∷ [])) is truth false
+    ∷ formed (curve 0 2 0 (0 ∷ [])) is truth false
+    ∷ formed (curve 1 2 0 (5 ∷ 4 ∷ 4 ∷ [])) is truth false
     ∷ formed (curve 1 2 0 (0 ∷ 5 ∷ 4 ∷ [])) is truth false
     ∷ formed seam is truth true
+    -- and of X
+    ∷ formedClaim (bounds delay atMost A B 1_000_000_000) is truth true
+    ∷ formedClaim (bounds delay atMost A B 1_000_000_001) is truth false
     ∷ []
 
 ground : map (λ r. answer (r .asked)) table ≡ map (λ r. r .answered) table

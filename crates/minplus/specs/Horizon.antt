@@ -6,7 +6,7 @@
 --
 --     commonPeriod           D
 --     slower, byRates        rates compared by cross products, and a rank for each of the three ways that they can
---                            stand
+--                            stand; Slower: the test as a statement
 --     Signed, increasedBy    plus less minus
 --     extremeOf              the greatest or the least d*f(t) - c*t over some ticks t; raisedAt: one of them, raised
 --     highest, lowest, earliest     the A, the B and the last list's least value of document 01; begunAt: what A is
@@ -16,7 +16,7 @@
 --     rankOf                 R, by slowMinimum and slowConvolution where f is the slower one; lastRank and fullPeriod:
 --                            K and P
 --     horizon, maxHorizon    of a claim, and the limit above which nothing is judged
-use Prim.Native.Nat.{ℕ, zero, suc, _+_, _-_, _*_, _/_, min, max}
+use Prim.Native.Nat.{ℕ, zero, suc, _+_, _-_, _*_, _/_, _<_, min, max}
 use mathlib.Core.Bool.{Bool, true, false}
 use lib.Dec.{ltb}
 use Rattle.minplus.specs.Search.{best}
@@ -32,6 +32,9 @@ commonPeriod f g = lcm (f .period) (g .period)
 -- "c*d' < c'*d": f is slower than g, compared by cross products
 abbrev pub slower : Curve → Curve → Bool
 slower f g = ltb (f .increment * g .period) (g .increment * f .period)
+
+abbrev pub Slower : Curve → Curve → Type 0
+Slower f g = f .increment * g .period < g .increment * f .period
 
 -- "equal rates", "f slower", "if g is slower, swap the two"
 unfoldable pub byRates : Curve → Curve → ℕ → (Curve → Curve → ℕ) → ℕ

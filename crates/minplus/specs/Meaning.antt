@@ -6,13 +6,14 @@
 --                   (well-formed-proper)
 --     Tight c       kinds 5 and 7: X = 0, or X-1 fails at some tick
 --     Loose c       kinds 5 and 7: X > 0, and X-1 holds at every tick
+--     Outpaced c    kinds 4 to 7: f is faster than g; rate-exactly (Exact.antt): exactly this is what code 3 tests
 --     Meaning c v   the table of verdicts, over all ticks
 use Prim.Native.Nat.{ℕ, _-_, _≤_, _<_}
 use mathlib.Core.Path.{_≡_}
 use mathlib.Core.Logic.{_⊎_}
 use Rattle.minplus.specs.Claim.{Claim, WellFormedClaim, allowed, atMost, bounds, due, equals, exactly}
 use Rattle.minplus.specs.Curve.{value}
-use Rattle.minplus.specs.Horizon.{horizon, maxHorizon}
+use Rattle.minplus.specs.Horizon.{Slower, horizon, maxHorizon}
 use Rattle.minplus.specs.Verdict.{Verdict, accepted, leftAt, notJudged, notLeast, refutedAt, refutedByRate, rightAt, tried}
 
 abbrev pub Rule : Claim → ℕ → Type 0
@@ -36,6 +37,11 @@ abbrev pub Loose : Claim → Type 0
 Loose (equals op f g h) = ⊥
 Loose (bounds δ atMost f g X) = ⊥
 Loose (bounds δ exactly f g X) = (0 < X) × ((s : ℕ) → Rule (bounds δ exactly f g (X - 1)) s)
+
+-- "kinds 4 to 7, c*d' > c'*d"
+abbrev pub Outpaced : Claim → Type 0
+Outpaced (equals op f g h) = ⊥
+Outpaced (bounds δ t f g X) = Slower g f
 
 abbrev pub Meaning : Claim → Verdict → Type 0
 -- 1: the rule holds at every tick, and X is the least where that is claimed

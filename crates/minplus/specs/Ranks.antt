@@ -21,8 +21,8 @@ use Rattle.minplus.specs.Curve.{Curve, value, value-gains, value-repeats
 use Rattle.minplus.specs.Divisor.{lcm, lcm-left, lcm-right, lcm-comm, lcm-positive}
 use Rattle.minplus.specs.Conv.{conv, conv-below, conv-attained, conv-above, conv-comm}
 use Rattle.minplus.specs.Claim.{Operation, sum, minimum, convolution, due}
-use Rattle.minplus.specs.Horizon.{commonPeriod, slower, byRates, minimumN, convolutionN, slowMinimum, slowConvolution, rankOf}
-use Rattle.minplus.specs.Crossing.{In, Slower, minimumN-law, convolutionN-law}
+use Rattle.minplus.specs.Horizon.{Slower, commonPeriod, slower, byRates, minimumN, convolutionN, slowMinimum, slowConvolution, rankOf}
+use Rattle.minplus.specs.Crossing.{In, minimumN-law, convolutionN-law}
 
 -- a tick from the rank on, brought back into the first period: t + k*d, where f is f(t) + k*c
 record FirstPeriod (f : Curve) (m : ℕ) : Type 0 where
