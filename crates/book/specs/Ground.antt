@@ -3,10 +3,14 @@
 --     w8, w8-contents     its 59 bytes, and what they hold
 --     w8-read             it is sound; w8-curves, w8-claim: with A, B and the claim of W8
 --     w8-values           W1, asked of it
+--     w8-told             asked for C, at the largest tick and one above it, of no curve, and of W8 torn in its claim
+--     most-claims         256 claims are taken, and no 257th (a 17th curve: the judge's Ground)
 --     empty-read          "An empty input is refusal 1 at 0."
-use Prim.Native.Nat.{ℕ}
+use Prim.Native.Nat.{ℕ, _+_, _*_, _^_}
 use mathlib.Core.Path.{_≡_, refl}
+use mathlib.Core.Bool.{false, true}
 use mathlib.Core.List.{List, [], _∷_, _++_}
+use lib.ListN.{take}
 use Rattle.minplus.specs.Claim.{kindBy}
 use Rattle.curve.specs.declared.Deviation.the-variants.{Delay}
 use Rattle.curve.specs.declared.Claim.the-variants.{Exactly}
@@ -15,10 +19,12 @@ use Rattle.content.specs.declared.Refusal.the-variants.{Torn}
 use Rattle.content.specs.declared.ClaimField.the-variants.{Stated}
 use Rattle.numbers.specs.Numbers.{numberAt}
 use Rattle.field.specs.Fields.{tagBy, contentAt}
-use Rattle.content.specs.Refusals.{claimField}
+use Rattle.content.specs.Refusals.{claimField, numberOf}
+use Rattle.field.specs.declared.Tag.the-variants as tag
+use Rattle.field.specs.Steps.{full}
 use Rattle.book.specs.declared.Asked.the-variants.{Value}
 use Rattle.book.specs.Reading.{Contents, sound, refused, readBook}
-use Rattle.book.specs.Values.{curveNamed, valueAsked}
+use Rattle.book.specs.Values.{curveNamed, valueAsked, told}
 
 -- version; A; B; A's delay on B is exactly 3; end
 unfoldable pub w8 : List ℕ
@@ -51,6 +57,18 @@ w8-claim = refl
 pub w8-values : (valueAsked w8 0 5 ≡ Value (record { 0 = 8 })) × (valueAsked w8 1 5 ≡ Value (record { 0 = 6 }))
 unfolding valueAsked w8 tagBy kindBy numberAt listOf
 w8-values = (refl, refl)
+
+-- "a tick above 2,000,000,000 is 12", "a number that names no curve is 11", both with place 0; the torn claim stands at 46
+pub w8-told : (told (valueAsked w8 0 2_000_000_000) ≡ record { refusal = 0; value = 2_000_000_003 })
+    × (told (valueAsked w8 0 2_000_000_001) ≡ record { refusal = 12; value = 0 })
+    × (told (valueAsked w8 2 0) ≡ record { refusal = 11; value = 0 })
+    × (told (valueAsked (take 50 w8) 0 0) ≡ record { refusal = 1 + 2 ^ 8 * 46; value = 0 })
+unfolding valueAsked w8 tagBy kindBy numberAt listOf numberOf
+w8-told = (refl, refl, refl, refl)
+
+pub most-claims : (full tag.Claim 1 255 ≡ false) × (full tag.Claim 1 256 ≡ true)
+unfolding full
+most-claims = (refl, refl)
 
 pub empty-read : readBook [] ≡ refused Torn 0
 unfolding readBook

@@ -12,8 +12,7 @@
 --     IsClaim, claimCurve     claim k and its curves, as the claim's bytes say it (claimContent)
 --     accepted-convolution    for the code 1 of kind 3 spelled out: h(n) is the least f(u)+g(n-u), at every n
 --     certified-means         a certified book: at least one claim, and each holds at every tick
---     inspected-w8            W8 is such a book; short-w8: with a byte too few for its record it is refused; w4,
---                             inspected-w4: W4 has a claim of kind 3 that is accepted
+--     (Ground.antt has such books: W8 accepted, W8 refused for want of room, a claim of kind 3 accepted in W4)
 use Prim.Native.Nat.{ℕ, zero, suc, _+_, _*_, _≤_, _<_, _^_}
 use mathlib.Core.Path.{_≡_, refl, sym, ap, subst, _∙_}
 use mathlib.Core.Bool.{Bool, true, false}
@@ -346,28 +345,3 @@ certified-means {a = a} {after = after} judged =
         eq-eqb (acceptedIn a) (claimsIn a) (judged .accepted-count ∙ all .1 (λ k lt. eq-eqb _ _ (judged .each-claim k lt .says .code-1 .1 (w .1 k lt))) ∙ sym (judged .add-up)),
       ),
     )
-
--- W8 with a buffer of 24 bytes: accepted, and the last three stay
-pub inspected-w8 : (answerOf w8 (replicate 24 7) ≡ 2 ^ 24) × (bufferOf w8 (replicate 24 7) ≡ 1 ∷ (replicate 20 0 ++ replicate 3 7))
-unfolding answerOf bufferOf w8 tagBy kindBy numberAt listOf
-inspected-w8 = (refl, refl)
-
--- with a byte too few for its record: 14 at place 0, and nothing is written
-pub short-w8 : (answerOf w8 (replicate 20 7) ≡ 14) × (bufferOf w8 (replicate 20 7) ≡ replicate 20 7)
-unfolding answerOf bufferOf w8 tagBy kindBy numberAt listOf numberOf
-short-w8 = (refl, refl)
-
--- version; A; B; their convolution; "A conv B"; end
-unfoldable pub w4 : List ℕ
-w4 =
-    (16 ∷ 0 ∷ 1 ∷ 1 ∷ [])
-    ++ (1 ∷ 0 ∷ 16 ∷ 0 ∷ 1 ∷ 0 ∷ 1 ∷ 0 ∷ 0 ∷ 0 ∷ 1 ∷ 0 ∷ 0 ∷ 0 ∷ 0 ∷ 0 ∷ 0 ∷ 0 ∷ 4 ∷ [])
-    ++ (1 ∷ 0 ∷ 20 ∷ 0 ∷ 2 ∷ 0 ∷ 1 ∷ 0 ∷ 0 ∷ 0 ∷ 2 ∷ 0 ∷ 0 ∷ 0 ∷ 0 ∷ 0 ∷ 0 ∷ 0 ∷ 0 ∷ 0 ∷ 0 ∷ 0 ∷ 0 ∷ [])
-    ++ (1 ∷ 0 ∷ 32 ∷ 0 ∷ 5 ∷ 0 ∷ 1 ∷ 0 ∷ 0 ∷ 0 ∷ 1 ∷ 0 ∷ 0 ∷ 0 ∷ 0 ∷ 0 ∷ 0 ∷ 0 ∷ 0 ∷ 0 ∷ 0 ∷ 0 ∷ 0 ∷ 0 ∷ 0 ∷ 0 ∷ 2 ∷ 0 ∷ 0 ∷ 0 ∷ 4 ∷ 0 ∷ 0 ∷ 0 ∷ 6 ∷ [])
-    ++ (2 ∷ 0 ∷ 4 ∷ 3 ∷ 0 ∷ 1 ∷ 2 ∷ [])
-    ++ (127 ∷ 0 ∷ 0 ∷ [])
-
--- W4: a claim of kind 3 that is accepted
-pub inspected-w4 : (kindIn (contentAt w4 81) ≡ some (result convolution)) × (codeIn (bufferOf w4 (replicate 21 0)) 0 ≡ 1)
-unfolding w4 bufferOf tagBy kindBy numberAt listOf
-inspected-w4 = (refl, refl)
