@@ -1,26 +1,18 @@
 -- Document 01, 'Ground to check against': W1 to W12 from the rules, as one table with one computed test. Below them
 -- stand the edges that its 'Errors that look right' names, and some more; each comment says which wrong reading the row
--- rules out.
+-- rules out. No theorem is used here: a formula that every theorem would allow to be another (a larger horizon is just
+-- as sound) is pinned by these rows alone, and tests/definitions tries such formulas.
 --
 --     table, ground     what is asked and the due answer; the test: every answer is the due one
---     ground-at         the answer of each row by itself; accepted-at: of a row that is accepted
---     well-formed-A, well-formed-B, well-formed-AB     the theorems' hypotheses can be met: by the curves of W4 and W8
---     convolution-AB, exact-delay-AB                   so W4 and W8 hold at every tick, without end
---     crossed-AB        and Slower, which the laws of N ask, can be met as well
-use Prim.Native.Nat.{ℕ, _+_, _≤_}
-use lib.Dec.{lit<, lit≤}
-use lib.ListN.{getD, replicate, List·getD-map}
+--     A, B, convAB      the curves of W4 and W8
+use Prim.Native.Nat.{ℕ, _+_}
+use lib.ListN.{replicate}
 use mathlib.Core.Bool.{Bool, false, true}
 use mathlib.Core.List.{List, [], _∷_, map}
-use mathlib.Core.Path.{_≡_, ap, refl, sym, _∙_}
-use native.Mathlib.Omega.{arith}
-use Rattle.minplus.specs.Claim.{Claim, Claimed, atMost, backlog, bounds, convolution, delay, due, equals, exactly, kindNumber, kindOf, minimum, sum, wellFormedClaim}
-use Rattle.minplus.specs.Conv.{conv}
-use Rattle.minplus.specs.Curve.{Curve, WellFormed, value, well-formed, wellFormed}
-use Rattle.minplus.specs.Exact.{accepted-exactly}
-use Rattle.minplus.specs.Horizon.{horizon, minimumN}
-use Rattle.minplus.specs.Meaning.{well-formed-proper}
-use Rattle.minplus.specs.Ranks.{crossed}
+use mathlib.Core.Path.{_≡_, refl}
+use Rattle.minplus.specs.Claim.{Claim, atMost, backlog, bounds, convolution, delay, equals, exactly, kindNumber, kindOf, minimum, sum, wellFormedClaim}
+use Rattle.minplus.specs.Curve.{Curve, value, wellFormed}
+use Rattle.minplus.specs.Horizon.{horizon}
 use Rattle.minplus.specs.Verdict.{Verdict, accepted, notJudged, notLeast, recordOf, refutedAt, refutedByRate, tried, verdict}
 
 data Question : Type 0 where
@@ -66,11 +58,11 @@ flat : ℕ → ℕ → ℕ → Curve
 unfolding curve
 flat T d x = curve T d 0 (replicate (T + d) x)
 
-A : Curve
+unfoldable pub A : Curve
 unfolding curve
 A = curve 1 1 1 (0 ∷ 4 ∷ [])
 
-B : Curve
+unfoldable pub B : Curve
 unfolding curve
 B = curve 2 1 2 (0 ∷ 0 ∷ 0 ∷ [])
 
@@ -83,7 +75,7 @@ minAB : Curve
 unfolding curve
 minAB = curve 7 1 1 (0 ∷ 0 ∷ 0 ∷ 2 ∷ 4 ∷ 6 ∷ 8 ∷ 10 ∷ [])
 
-convAB : Curve
+unfoldable pub convAB : Curve
 unfolding curve
 convAB = curve 5 1 1 (0 ∷ 0 ∷ 0 ∷ 2 ∷ 4 ∷ 6 ∷ [])
 
@@ -184,6 +176,8 @@ table =
     ∷ horizonOf (equals convolution steep late (flat 0 1 0)) is number 7
     -- rates 1/2 and 2/3, both 0 in whole numbers
     ∷ horizonOf (equals minimum (curve 0 2 1 (0 ∷ 0 ∷ [])) (curve 0 3 2 (0 ∷ 0 ∷ 0 ∷ [])) (flat 0 1 0)) is number 14
+    -- rates 2/3 and 1, which c*d and c'*d' would exchange
+    ∷ horizonOf (equals minimum S line (flat 0 1 0)) is number 9
     -- a sum has no N
     ∷ horizonOf (equals sum A B (flat 0 1 0)) is number 3
     -- and N where the slower curve stands on the right
@@ -276,51 +270,3 @@ table =
 ground : map (λ r. answer (r .asked)) table ≡ map (λ r. r .answered) table
 unfolding answer table
 ground = refl
-
--- row i, and the first one past the last
-row : ℕ → Row
-unfolding _is_
-row i = getD table i (valueOf A 5 is number 8)
-
-ground-at : (i : ℕ) → answer (row i .asked) ≡ row i .answered
-unfolding row answer A
-ground-at i =
-    sym (List·getD-map (λ (r : Row). answer (r .asked)) table i (valueOf A 5 is number 8))
-    ∙ ap (λ (l : List Answer). getD l i (number 8)) ground
-    ∙ List·getD-map (λ (r : Row). r .answered) table i (valueOf A 5 is number 8)
-
--- an accepted row of the table
-accepted-at : (i : ℕ) (c : Claim) → row i ≡ verdictOf c is judged accepted → verdict c ≡ accepted
-unfolding _is_ answer
-accepted-at i c e =
-    let said : judged (verdict c) ≡ judged accepted = sym (ap (λ (r : Row). answer (r .asked)) e) ∙ ground-at i ∙ ap (λ (r : Row). r .answered) e in
-    cc
-
-well-formed-A : WellFormed A
-unfolding wellFormed A
-well-formed-A = well-formed A .0 refl
-
-well-formed-B : WellFormed B
-unfolding wellFormed B
-well-formed-B = well-formed B .0 refl
-
-well-formed-AB : WellFormed convAB
-unfolding wellFormed convAB
-well-formed-AB = well-formed convAB .0 refl
-
-convolution-AB : (n : ℕ) → value convAB n ≡ conv (value A) (value B) n
-unfolding row table due
-convolution-AB =
-    let c : Claim = equals convolution A B convAB in
-    accepted-exactly c (well-formed-proper c (well-formed-A, well-formed-B, well-formed-AB)) .0 (accepted-at 5 c refl) .1
-
--- where rates differ: the N of W3 is 7, and from there on A is below B
-crossed-AB : (n : ℕ) → 7 ≤ n → value A n ≤ value B n
-unfolding minimumN A B
-crossed-AB n le = crossed A B (well-formed-A .period-positive) (well-formed-B .period-positive) (lit< tt) n le (omega arith) (omega arith)
-
-exact-delay-AB : Claimed (bounds delay exactly A B 3)
-unfolding row table
-exact-delay-AB =
-    let c : Claim = bounds delay exactly A B 3 in
-    accepted-exactly c (well-formed-proper c (well-formed-A, well-formed-B, lit≤ tt)) .0 (accepted-at 11 c refl) .1

@@ -14,3 +14,4 @@ pub mod Crossing
 pub mod Ranks
 pub mod Exact
 pub mod Ground
+pub mod Met
