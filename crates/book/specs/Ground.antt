@@ -58,7 +58,8 @@ pub w8-values : (valueAsked w8 0 5 ≡ Value (record { 0 = 8 })) × (valueAsked 
 unfolding valueAsked w8 tagBy kindBy numberAt listOf
 w8-values = (refl, refl)
 
--- "a tick above 2,000,000,000 is 12", "a number that names no curve is 11", both with place 0; the torn claim stands at 46
+-- "a tick above 2,000,000,000 is 12", "a number that names no curve is 11", both with place 0; the torn claim stands at
+-- 46
 pub w8-told : (told (valueAsked w8 0 2_000_000_000) ≡ record { refusal = 0; value = 2_000_000_003 })
     × (told (valueAsked w8 0 2_000_000_001) ≡ record { refusal = 12; value = 0 })
     × (told (valueAsked w8 2 0) ≡ record { refusal = 11; value = 0 })

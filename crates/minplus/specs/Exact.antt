@@ -3,7 +3,8 @@
 --     verdict-exact       the verdict on c is v exactly when Meaning c v: every verdict, every kind
 --     verdict-one         two verdicts that Meaning allows are one
 --     accepted-exactly    code 1 exactly when the horizon is at most 4,096 and what is claimed is so
---     rate-exactly        code 3 exactly when the horizon is at most 4,096, no tried tick breaks the rule and c*d' > c'*d
+--     rate-exactly        code 3 exactly when the horizon is at most 4,096, no tried tick breaks the rule and c*d' >
+--                         c'*d
 --     backlog-exact       kind 7 claims the vertical deviation
 --     results-judged      kinds 1 to 3 within 4,096: accepted and equal at every tick, or the first tick that differs
 --                         is named with both values
@@ -11,8 +12,8 @@
 --     (codes 5 and 4, what code 3 says of later ticks and what code 2 names are verdict-exact as it stands)
 --
 -- Before them: a tick's test and its rule (rule-kept, rule-broken), from the tried ticks to every tick (results-agree,
--- tried-enough, rate-outpaced, rate-due), and what each test on the way to a verdict tells (break-none, break-at, break-found,
--- less-means).
+-- tried-enough, rate-outpaced, rate-due), and what each test on the way to a verdict tells (break-none, break-at,
+-- break-found, less-means).
 use Prim.Native.Nat.{ℕ, _+_, _-_, _≤_, _<_, max}
 use mathlib.Core.Path.{_≡_, refl, sym, ap, _∙_, subst}
 use mathlib.Core.Bool.{Bool, true, false, false≢true}
