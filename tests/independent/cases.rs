@@ -9,6 +9,7 @@ use crate::dice::Dice;
 use crate::judge::{MOST_TICK, RECORD};
 use crate::make::{crossing_book, full_of, large_book, many_claims};
 use crate::make::{ranks_book, small_book, unjudged_book};
+use crate::shared::shared_book;
 use crate::spoil::{long_book, rubbish, spoil_bytes, spoil_fields, spoil_twice};
 use std::io::{self, Write};
 
@@ -66,8 +67,11 @@ impl Lent {
 /// another length, so a book of up to 149 bytes is torn at every length.
 const TORN: u64 = 10;
 const LENGTHS: u64 = 150;
+const SHARED: u64 = 30;
 const FAR: u64 = 250;
 const TOTALS: u64 = 300;
+
+pub const SHARING: &str = "periods that share divisors";
 
 /// The codes of each of the three totals.
 pub const CODES: [&[u8]; 3] = [&[1], &[2, 3, 4], &[5]];
@@ -78,6 +82,10 @@ pub fn case(seed: u64, index: u64) -> Case {
         let book = torn(seed, index / TORN);
         let ask = ask(&mut dice, &book);
         return Case::of("torn", book, ask);
+    }
+    if index % SHARED == 4 {
+        let book = shared_book(&mut dice, index / SHARED);
+        return judged(&mut dice, SHARING, &book);
     }
     if index % TOTALS == 2 {
         let book = full_of(&mut dice, CODES[(index / TOTALS % 3) as usize]);

@@ -3,11 +3,12 @@
 //! check    reads one answer for each case; the first difference ends the run
 //! Seen     counts of refusals by reason, verdicts by kind and code, buffers by length, and more
 
-use crate::book::{Refusal, MOST_CLAIMS, REASONS};
-use crate::cases::{case, Ask, Case, Lent, CODES, FAR_BITS};
+use crate::book::{read, Refusal, MOST_CLAIMS, REASONS};
+use crate::cases::{case, Ask, Case, Lent, CODES, FAR_BITS, SHARING};
 use crate::header::{record, take_record, take_said, Parts};
 use crate::judge::{answer, ask_value, decide, refusal_number, room_enough, Totals, RECORD};
-use crate::law::Verdict;
+use crate::law::{horizon, pace, Verdict};
+use crate::shared::{RATES, TARGETS};
 use crate::text::{hex, words};
 use std::cmp::Ordering;
 use std::collections::{BTreeMap, BTreeSet};
@@ -32,6 +33,8 @@ struct Seen {
     rooms: [u64; 3],
     /// 256 claims accepted, refuted, not judged.
     full: [u64; 3],
+    /// Kind, horizon, and f's rate against g's, of the claims whose periods share divisors.
+    sharing: BTreeSet<(u8, i64, Ordering)>,
     /// What was long, and the highest bit of its length.
     far: BTreeSet<(&'static str, u32)>,
     values: u64,
@@ -83,7 +86,7 @@ fn judge_case(
 ) -> Result<(), String> {
     // What is not sent is over 32,768 bytes, or more than any records need.
     let decision = decide(&case.book.bytes);
-    seen.judge(&decision, room.bytes.len());
+    seen.judge(case, &decision, room.bytes.len());
     let mut due_room = room.bytes.clone();
     let due = answer(&decision, &mut due_room);
     let got = take_number(answers)?;
@@ -218,7 +221,7 @@ impl Seen {
         }
     }
 
-    fn judge(&mut self, decision: &Result<Vec<(u8, Verdict)>, Refusal>, room: usize) {
+    fn judge(&mut self, case: &Case, decision: &Result<Vec<(u8, Verdict)>, Refusal>, room: usize) {
         self.judged += 1;
         let verdicts = match decision {
             Ok(verdicts) => verdicts,
@@ -240,6 +243,21 @@ impl Seen {
         for (full, codes) in self.full.iter_mut().zip(CODES) {
             let counted = verdicts.iter().filter(|(_, v)| codes.contains(&v.code()));
             *full += u64::from(counted.count() == MOST_CLAIMS);
+        }
+        if case.label == SHARING {
+            self.share(&case.book.bytes);
+        }
+    }
+
+    fn share(&mut self, book: &[u8]) {
+        let book = read(book).expect("a book that was judged");
+        for claim in &book.claims {
+            let (f, g) = (
+                &book.curves[claim.left as usize],
+                &book.curves[claim.right as usize],
+            );
+            let reached = (claim.kind, horizon(&book, claim), pace(f, g));
+            self.sharing.insert(reached);
         }
     }
 
@@ -299,6 +317,13 @@ impl Seen {
                 missing.push(format!("{what} of 2^{bit} bytes and more"));
             }
         }
+        for kind in 1..=7 {
+            for (target, rates) in TARGETS.iter().flat_map(|t| RATES.map(|r| (*t, r))) {
+                if !self.sharing.contains(&(kind, target, rates)) {
+                    missing.push(format!("{SHARING}: {kind}, {target}, rates {rates:?}"));
+                }
+            }
+        }
         missing
     }
 
@@ -343,8 +368,11 @@ impl Seen {
             self.judged, self.claims
         );
         let [accepted, refuted, unjudged] = self.full;
-        text +=
-            &format!("256 claims accepted {accepted}, refuted {refuted}, not judged {unjudged}\n");
+        text += &format!(
+            "256 claims accepted {accepted}, refuted {refuted}, not judged {unjudged}; \
+             {SHARING}: {} kinds with horizons and rates\n",
+            self.sharing.len()
+        );
         text + &self.value_summary()
     }
 

@@ -3,7 +3,7 @@
 //! book.rs      the layout, read and written        law.rs       values, horizons, verdicts
 //! judge.rs     the entries' answers                text.rs      the program's lines
 //! make.rs      sound books                         spoil.rs     spoiled ones
-//! header.rs    what the header for C says
+//! shared.rs    periods that share divisors         header.rs    what the header for C says
 //! cases.rs     the cases and their form            check.rs     answers compared
 //! writer.rs    the writer's answers and state      calls.rs     sequences of its calls
 //! calls_check.rs   their answers compared, and every byte
@@ -23,6 +23,7 @@ mod header;
 mod judge;
 mod law;
 mod make;
+mod shared;
 mod spoil;
 mod text;
 mod writer;

@@ -243,7 +243,7 @@ impl<'a> Maker<'a> {
     }
 }
 
-fn shuffled(dice: &mut Dice, mut book: Book) -> Book {
+pub fn shuffled(dice: &mut Dice, mut book: Book) -> Book {
     for i in (1..book.curves.len()).rev() {
         let j = dice.index(i + 1);
         book.curves.swap(i, j);
