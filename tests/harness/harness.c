@@ -43,7 +43,6 @@
 #include <stdlib.h>
 #include <string.h>
 #include <sys/mman.h>
-#include <unistd.h>
 
 enum { PAGE = 4096, GUARD = 16 * PAGE, SENT = 32 * PAGE, RECORD = 21 };
 
@@ -54,10 +53,10 @@ static _Noreturn void fail(const char *why) {
     exit(2);
 }
 
+/* Only a call of what is tested ends here, and it holds nothing of the C library: the answers so far can be flushed. */
 static void on_fault(int number) {
-    static const char text[] = "harness: a byte was touched that was not lent, or written that was lent to be read\n";
     (void)number;
-    _exit(write(2, text, sizeof text - 1) < 0 ? 3 : 2);
+    fail("a byte was touched that was not lent, or written that was lent to be read");
 }
 
 /* ---- bytes compared, in words: the emulator is slow with bytes one by one */

@@ -43,8 +43,6 @@ int munmap(void *, size_t);
 
 #define SIGSEGV 11
 void (*signal(int, void (*)(int)))(int);
-long write(int, const void *, size_t);
-void _exit(int) __attribute__((noreturn));
 
 struct timespec {
     long tv_sec, tv_nsec;
