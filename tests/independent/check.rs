@@ -207,18 +207,13 @@ fn value_case(
 
 impl Seen {
     fn lengths(&mut self, case: &Case) {
-        let (what, book) = match case.ask {
-            Ask::Judge(_) => ("a book", &case.book),
-            Ask::Value { .. } => ("a book asked for a value", &case.book),
+        let book = case.book.length();
+        let lengths = match &case.ask {
+            Ask::Judge(room) => vec![("a book", book), ("a buffer", room.length())],
+            Ask::Value { .. } => vec![("a book asked for a value", book)],
         };
-        let room = match &case.ask {
-            Ask::Judge(room) => room.length(),
-            Ask::Value { .. } => 0,
-        };
-        for (what, length) in [(what, book.length()), ("a buffer", room)] {
-            self.far
-                .extend(length.checked_ilog2().map(|bit| (what, bit)));
-        }
+        let highest = |(what, length): (_, u64)| Some((what, length.checked_ilog2()?));
+        self.far.extend(lengths.into_iter().filter_map(highest));
     }
 
     fn judge(&mut self, case: &Case, decision: &Result<Vec<(u8, Verdict)>, Refusal>, room: usize) {
