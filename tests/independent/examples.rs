@@ -159,7 +159,8 @@ const AT_1: &str = "refuted at 1 left 1 right 0";
 type Row = ((u8, u8, u8, i64), i64, &'static str);
 
 /// Periods 64 and 128 have D = 128, 124 and 128 have D = 3,968. With h's period, P is 128 for 1,
-/// 3,968 for 62 and 3,712 for 58. The ranks are 0, or 128 on both sides, or 128 and 129.
+/// 3,968 for 62 and 3,712 for 58. The ranks of f and g are 0, or 128 on both sides, or 128 and 129;
+/// h's is below R.
 fn shared_divisors() -> (Book, Vec<Row>) {
     let curves = vec![
         line(0, 64, 0, 0),
@@ -171,9 +172,9 @@ fn shared_divisors() -> (Book, Vec<Row>) {
         line(129, 64, 0, 0),
         line(128, 64, 1, 0),
         line(129, 64, 1, 0),
-        line(0, 62, 0, 0),
-        line(0, 62, 1, 0),
-        line(0, 58, 0, 0),
+        line(100, 62, 0, 0),
+        line(100, 62, 1, 0),
+        line(190, 58, 0, 0),
         line(128, 124, 0, 0),
         line(129, 124, 0, 0),
         line(128, 124, 1, 0),
