@@ -1,5 +1,5 @@
-/* books ROUNDS < BOOK: judges the book by the proved judge and by plain_judge in turn. Prints the least processor time of each in nanoseconds and the
-   number of claims. Both must give the same answer and the same bytes, in each round. */
+/* books ROUNDS < BOOK: judges the book by the proved judge and by plain_judge in turn. Prints the least processor time
+   of each in nanoseconds and the number of claims. Both must give the same answer and the same bytes, in each round. */
 #include "../include/zurmakida.h"
 #include <stdio.h>
 #include <stdlib.h>
@@ -33,7 +33,8 @@ static void take_turn(struct run *run, const uint8_t *book, size_t length) {
 
 int main(int count, char **words) {
     static uint8_t book[ZURMAKIDA_MAX_BOOK_BYTES + 1];
-    static struct run proved = {.judge = judge, .least = (uint64_t)-1}, plain = {.judge = plain_judge, .least = (uint64_t)-1};
+    static struct run proved = {.judge = judge, .least = (uint64_t)-1};
+    static struct run plain = {.judge = plain_judge, .least = (uint64_t)-1};
     int rounds = count == 2 ? atoi(words[1]) : 0;
     size_t length = fread(book, 1, sizeof book, stdin);
     for (int round = 0; round < rounds; round++) {
@@ -44,6 +45,7 @@ int main(int count, char **words) {
             return 1;
         }
     }
-    printf("%llu %llu %u\n", (unsigned long long)proved.least, (unsigned long long)plain.least, zurmakida_claims(proved.answer));
+    printf("%llu %llu %u\n", (unsigned long long)proved.least, (unsigned long long)plain.least,
+           zurmakida_claims(proved.answer));
     return 0;
 }

@@ -1,6 +1,6 @@
-/* The judge and the writer of document 01 in straightforward C: what the proved ones are timed against and compared with. The entries are those
-   of the header, with plain_ before each name. Horizons and crossings are of 64 bits with a sign; tables hold 32 bits, as a value at a tick of
-   at most 4,096 does. */
+/* The judge and the writer of document 01 in straightforward C: what the proved ones are timed against and compared
+   with. The entries are those of the header, with plain_ before each name. Horizons and crossings are of 64 bits with a
+   sign; tables hold 32 bits, as a value at a tick of at most 4,096 does. */
 #ifndef judge
 #define judge plain_judge
 #define curve_value plain_curve_value
@@ -109,7 +109,8 @@ static unsigned read_field(const uint8_t *bytes, size_t length, size_t place, un
         return ZURMAKIDA_REFUSED_UNKNOWN_TAG;
     if (!in_order(before, tag))
         return ZURMAKIDA_REFUSED_OUT_OF_PLACE;
-    if ((tag == TAG_CURVE && book->curve_count == ZURMAKIDA_MAX_CURVES) || (tag == TAG_CLAIM && book->claim_count == ZURMAKIDA_MAX_CLAIMS))
+    if ((tag == TAG_CURVE && book->curve_count == ZURMAKIDA_MAX_CURVES) ||
+        (tag == TAG_CLAIM && book->claim_count == ZURMAKIDA_MAX_CLAIMS))
         return ZURMAKIDA_REFUSED_TOO_MANY;
     if (content_length > left)
         return ZURMAKIDA_REFUSED_RUNS_PAST;
@@ -266,7 +267,8 @@ static struct zurmakida_record judge_equal(const struct book *book, const struct
 }
 
 /* The first tick below the horizon at which `bound` is broken, with both sides; accepted where there is none. */
-static struct zurmakida_record try_bound(const struct curve *f, const struct curve *g, int delay, uint64_t bound, uint32_t horizon) {
+static struct zurmakida_record try_bound(const struct curve *f, const struct curve *g, int delay, uint64_t bound,
+                                         uint32_t horizon) {
     for (uint32_t s = 0; s < horizon; s++) {
         uint64_t left = value_at(f, s);
         uint64_t right = delay ? value_at(g, s + bound) : value_at(g, s) + bound;
@@ -295,7 +297,8 @@ static struct zurmakida_record judge_claim(const struct book *book, const struct
     int64_t horizon = horizon_of(book, claim);
     if (horizon > MAX_HORIZON)
         return plain_code(ZURMAKIDA_NOT_JUDGED);
-    return claim->kind < DELAY ? judge_equal(book, claim, (uint32_t)horizon) : judge_bound(book, claim, (uint32_t)horizon);
+    return claim->kind < DELAY ? judge_equal(book, claim, (uint32_t)horizon)
+                               : judge_bound(book, claim, (uint32_t)horizon);
 }
 
 /* ---- the entries */
@@ -360,7 +363,8 @@ static int is_begun(uint64_t state) { return (state >> 40 & 0x7F) != 0; }
 
 /* Whether a call may come that needs a book that is begun, or one that is not. */
 static int in_turn(uint64_t state, int begun) {
-    return state >> 48 == 0 && zurmakida_written(state) <= ZURMAKIDA_MAX_BOOK_BYTES && !(state & CLOSED) && is_begun(state) == begun;
+    return state >> 48 == 0 && zurmakida_written(state) <= ZURMAKIDA_MAX_BOOK_BYTES && !(state & CLOSED) &&
+           is_begun(state) == begun;
 }
 
 static int has_room(uint64_t state, size_t length, size_t field) {
@@ -402,8 +406,8 @@ static unsigned refuse_curve(uint64_t rank, uint64_t period, uint64_t increment,
     return over ? ZURMAKIDA_REFUSED_OVER_LIMIT : falls ? ZURMAKIDA_REFUSED_VALUES_FALL : 0;
 }
 
-struct book_call book_add_curve(uint64_t state, uint8_t *book, size_t length, uint64_t rank, uint64_t period, uint64_t increment,
-                                const uint32_t *values, size_t count) {
+struct book_call book_add_curve(uint64_t state, uint8_t *book, size_t length, uint64_t rank, uint64_t period,
+                                uint64_t increment, const uint32_t *values, size_t count) {
     if (!in_turn(state, 1) || claims_in(state) > 0)
         return refused_with(state, ZURMAKIDA_REFUSED_OUT_OF_PLACE);
     if (curves_in(state) >= ZURMAKIDA_MAX_CURVES)
@@ -432,7 +436,8 @@ static unsigned refuse_claim(uint64_t kind, uint64_t left, uint64_t right, uint6
     return kind >= DELAY && third > MAX_BOUND ? ZURMAKIDA_REFUSED_TOO_LARGE : 0;
 }
 
-struct book_call book_add_claim(uint64_t state, uint8_t *book, size_t length, uint64_t kind, uint64_t left, uint64_t right, uint64_t third) {
+struct book_call book_add_claim(uint64_t state, uint8_t *book, size_t length, uint64_t kind, uint64_t left,
+                                uint64_t right, uint64_t third) {
     if (!in_turn(state, 1))
         return refused_with(state, ZURMAKIDA_REFUSED_OUT_OF_PLACE);
     if (claims_in(state) >= ZURMAKIDA_MAX_CLAIMS)

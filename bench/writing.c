@@ -1,5 +1,5 @@
-/* writing ROUNDS < BOOK: writes the calls of a sound book by the proved writer and by the plain one in turn. Prints the least processor time of each
-   in nanoseconds and the number of calls. Both must write that book, in each round. */
+/* writing ROUNDS < BOOK: writes the calls of a sound book by the proved writer and by the plain one in turn. Prints the
+   least processor time of each in nanoseconds and the number of calls. Both must write that book, in each round. */
 #include "../include/zurmakida.h"
 #include <stdio.h>
 #include <stdlib.h>
@@ -7,10 +7,10 @@
 #include <time.h>
 
 struct book_call plain_book_begin(uint64_t state, uint8_t *book, size_t book_length);
-struct book_call plain_book_add_curve(uint64_t state, uint8_t *book, size_t book_length, uint64_t rank, uint64_t period, uint64_t increment,
-                                      const uint32_t *values, size_t count);
-struct book_call plain_book_add_claim(uint64_t state, uint8_t *book, size_t book_length, uint64_t kind, uint64_t left, uint64_t right,
-                                      uint64_t third);
+struct book_call plain_book_add_curve(uint64_t state, uint8_t *book, size_t book_length, uint64_t rank, uint64_t period,
+                                      uint64_t increment, const uint32_t *values, size_t count);
+struct book_call plain_book_add_claim(uint64_t state, uint8_t *book, size_t book_length, uint64_t kind, uint64_t left,
+                                      uint64_t right, uint64_t third);
 struct book_call plain_book_close(uint64_t state, uint8_t *book, size_t book_length);
 
 struct writer {
@@ -45,7 +45,8 @@ static void take_apart(const uint8_t *book) {
             for (size_t i = 0; i < curve->rank + curve->period; i++)
                 curve->values[i] = (uint32_t)zurmakida_number(field + 11 + 4 * i, 4);
         } else if (field[0] == 0x02) {
-            claims[claim_count++] = (struct claim){field[3], field[4], field[5], zurmakida_number(field + 6, field[3] <= 3 ? 1 : 4)};
+            uint64_t third = zurmakida_number(field + 6, field[3] <= 3 ? 1 : 4);
+            claims[claim_count++] = (struct claim){field[3], field[4], field[5], third};
         }
     }
 }
@@ -56,11 +57,13 @@ static uint64_t write_all(const struct writer *writer, uint8_t *book, size_t len
     uint64_t refused = call.refusal;
     for (size_t i = 0; i < curve_count; i++) {
         const struct curve *f = &curves[i];
-        call = writer->add_curve(call.state, book, length, f->rank, f->period, f->increment, f->values, f->rank + f->period);
+        call = writer->add_curve(call.state, book, length, f->rank, f->period, f->increment, f->values,
+                                 f->rank + f->period);
         refused += call.refusal;
     }
     for (size_t i = 0; i < claim_count; i++) {
-        call = writer->add_claim(call.state, book, length, claims[i].kind, claims[i].left, claims[i].right, claims[i].third);
+        const struct claim *claim = &claims[i];
+        call = writer->add_claim(call.state, book, length, claim->kind, claim->left, claim->right, claim->third);
         refused += call.refusal;
     }
     return refused + writer->close(call.state, book, length).refusal;
@@ -87,7 +90,8 @@ static int take_turn(struct writer *writer, const uint8_t *due, size_t length) {
 int main(int count, char **words) {
     static uint8_t book[ZURMAKIDA_MAX_WRITTEN_BYTES];
     struct writer proved = {book_begin, book_add_curve, book_add_claim, book_close, (uint64_t)-1};
-    struct writer plain = {plain_book_begin, plain_book_add_curve, plain_book_add_claim, plain_book_close, (uint64_t)-1};
+    struct writer plain = {plain_book_begin, plain_book_add_curve, plain_book_add_claim, plain_book_close,
+                           (uint64_t)-1};
     int rounds = count == 2 ? atoi(words[1]) : 0;
     size_t length = fread(book, 1, sizeof book, stdin);
     take_apart(book);
@@ -97,6 +101,7 @@ int main(int count, char **words) {
             return 1;
         }
     }
-    printf("%llu %llu %lu\n", (unsigned long long)proved.least, (unsigned long long)plain.least, (unsigned long)(2 + curve_count + claim_count));
+    printf("%llu %llu %lu\n", (unsigned long long)proved.least, (unsigned long long)plain.least,
+           (unsigned long)(2 + curve_count + claim_count));
     return 0;
 }

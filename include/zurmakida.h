@@ -1,8 +1,8 @@
 /* zurmakida.h: the judge of books of min-plus curves and claims, for C99 and C++. x86-64 Linux.
 
-   judge() reads a book, decides each of its claims and writes a record of 21 bytes for each into a buffer that the caller lends.
-   curve_value() asks a book for the value of one of its curves at a tick. book_begin(), book_add_curve(), book_add_claim() and book_close()
-   write a book. All are in the archive libzurmakida.a; link it after your own code.
+   judge() reads a book, decides each of its claims and writes a record of 21 bytes for each into a buffer that the
+   caller lends. curve_value() asks a book for the value of one of its curves at a tick. book_begin(), book_add_curve(),
+   book_add_claim() and book_close() write a book. All are in the archive libzurmakida.a; link it after your own code.
 
        uint8_t verdicts[ZURMAKIDA_MAX_VERDICT_BYTES];
        uint64_t answer = judge(book, book_length, verdicts, sizeof verdicts);
@@ -17,30 +17,32 @@
        }
 
    What holds for all of them:
-   - Every input has an answer. No call aborts, loops for ever or waits for anything. No length is too short or too long for an answer.
-   - What is lent to be read (a book to judge() and curve_value(), the values of a curve) stays readable and unchanged for the length of the
-     call. What is lent to be written (the verdicts, the room for a book) nobody else reads or writes during the call. Bytes may have any
-     alignment; a curve's values are aligned as C aligns uint32_t.
+   - Every input has an answer. No call aborts, loops for ever or waits for anything. No length is too short or too long
+     for an answer.
+   - What is lent to be read (a book to judge() and curve_value(), the values of a curve) stays readable and unchanged
+     for the length of the call. What is lent to be written (the verdicts, the room for a book) nobody else reads or
+     writes during the call. Bytes may have any alignment; a curve's values are aligned as C aligns uint32_t.
    - What one call is lent must not overlap, not in one byte.
    - NULL is allowed where the length is 0, and only there.
-   - The memory is lent for the call and stays the caller's: no pointer is kept, nothing is allocated, nothing is to be freed.
-   - There is no state outside the arguments: the same input has the same answer, always. Calls may run at once in any number of
-     threads, and may share a book to read; each has its own bytes to write.
-   - Stack: one call of judge takes at most 65,944 bytes, one of curve_value 7,136, one of the others 56; beside that what memcpy and memset of
-     the C library take, and the 128 bytes below the stack pointer that are any function's on x86-64 (bench/stack reads it off the machine
-     code).
+   - The memory is lent for the call and stays the caller's: no pointer is kept, nothing is allocated, nothing is to be
+     freed.
+   - There is no state outside the arguments: the same input has the same answer, always. Calls may run at once in any
+     number of threads, and may share a book to read; each has its own bytes to write.
+   - Stack: one call of judge takes at most 65,944 bytes, one of curve_value 7,136, one of the others 56; beside that
+     what memcpy and memset of the C library take, and the 128 bytes below the stack pointer that are any function's on
+     x86-64 (bench/stack reads it off the machine code).
 
-   The book, in short. Numbers stand high byte first. A field is a tag (1 byte), the length of its content (2 bytes) and the content.
-   Fields stand in this order with nothing between them and nothing after:
+   The book, in short. Numbers stand high byte first. A field is a tag (1 byte), the length of its content (2 bytes) and
+   the content. Fields stand in this order with nothing between them and nothing after:
 
-       10 hex  version   1 byte: 1                                                                                    once
-       01      curve     rank T (2), period d (2), increment c (4), values f(0) to f(T+d-1) (4 each)                  at most 16
-       02      claim     kind, left, right (1 each), then h (1) for kinds 1 to 3 or X (4) for kinds 4 to 7            at most 256
-       7F hex  end       empty                                                                                        once
+       10 hex  version   1 byte: 1                                                                         once
+       01      curve     rank T (2), period d (2), increment c (4), values f(0) to f(T+d-1) (4 each)       at most 16
+       02      claim     kind, left, right (1 each), then h (1) for kinds 1 to 3 or X (4) for kinds 4 to 7 at most 256
+       7F hex  end       empty                                                                             once
 
-   For n >= T, f(n+d) = f(n)+c. d >= 1; T+d <= 256; c and each value at most 1,000,000; no value below the one before it; X at most
-   1,000,000,000. Curves and claims are counted from 0 in the order of the book. With f the left curve, g the right one and h the claimed
-   one, a claim says, of every tick n or s:
+   For n >= T, f(n+d) = f(n)+c. d >= 1; T+d <= 256; c and each value at most 1,000,000; no value below the one before
+   it; X at most 1,000,000,000. Curves and claims are counted from 0 in the order of the book. With f the left curve, g
+   the right one and h the claimed one, a claim says, of every tick n or s:
 
        1 sum               h(n) = f(n)+g(n)
        2 minimum           h(n) = the smaller of f(n), g(n)
@@ -63,11 +65,12 @@ extern "C" {
 #define ZURMAKIDA_MAX_CURVES 16
 #define ZURMAKIDA_MAX_CLAIMS 256
 #define ZURMAKIDA_RECORD_BYTES 21
-#define ZURMAKIDA_MAX_VERDICT_BYTES (ZURMAKIDA_MAX_CLAIMS * ZURMAKIDA_RECORD_BYTES) /* room for the records of any book */
+#define ZURMAKIDA_MAX_VERDICT_BYTES (ZURMAKIDA_MAX_CLAIMS * ZURMAKIDA_RECORD_BYTES) /* room for any book's records */
 #define ZURMAKIDA_MAX_TICK 2000000000 /* that curve_value takes */
 
-/* Why a book that is read is refused. The place is that of the first byte of the first bad field, counted from 0, unless it says otherwise.
-   Where a book is written the numbers are the same and have no place: see 'writing a book' below. */
+/* Why a book that is read is refused. The place is that of the first byte of the first bad field, counted from 0,
+   unless it says otherwise. Where a book is written the numbers are the same and have no place: see 'writing a book'
+   below. */
 enum zurmakida_refusal_number {
     ZURMAKIDA_NOT_REFUSED = 0,
     ZURMAKIDA_REFUSED_RUNS_PAST = 1,      /* fewer than 3 bytes are left, or the content runs past the book */
@@ -80,17 +83,21 @@ enum zurmakida_refusal_number {
     ZURMAKIDA_REFUSED_OVER_LIMIT = 8,     /* curve: c or a value is over 1,000,000 */
     ZURMAKIDA_REFUSED_VALUES_FALL = 9,    /* curve: a value is below the one before it */
     ZURMAKIDA_REFUSED_CLAIM = 10,         /* claim: empty, unknown kind or wrong length */
-    ZURMAKIDA_REFUSED_NO_SUCH_CURVE = 11, /* claim: an id that names no curve. From curve_value also: no such curve, place 0 */
-    ZURMAKIDA_REFUSED_TOO_LARGE = 12,     /* claim: X over 1,000,000,000. From curve_value also: tick over 2,000,000,000, place 0 */
+    ZURMAKIDA_REFUSED_NO_SUCH_CURVE = 11, /* claim: an id that names no curve. From curve_value also: no such curve,
+                                             place 0 */
+    ZURMAKIDA_REFUSED_TOO_LARGE = 12,     /* claim: X over 1,000,000,000. From curve_value also: tick over
+                                             2,000,000,000, place 0 */
     ZURMAKIDA_REFUSED_END = 13,           /* end: the length isn't 0, or a byte follows */
-    ZURMAKIDA_REFUSED_NO_ROOM = 14,       /* a sound book, but the lent buffer is under 21 bytes per claim; place 0. Not from curve_value */
+    ZURMAKIDA_REFUSED_NO_ROOM = 14,       /* a sound book, but the lent buffer is under 21 bytes per claim; place 0.
+                                             Not from curve_value */
     ZURMAKIDA_REFUSED_BOOK_TOO_LONG = 15  /* the book is over 32,768 bytes; place 0 */
 };
 
 /* What a record says of its claim. */
 enum zurmakida_code {
     ZURMAKIDA_ACCEPTED = 1,          /* it holds at every tick, without end */
-    ZURMAKIDA_REFUTED_AT_TICK = 2,   /* it fails at the record's tick, and at none before: the only code with a tick and two values */
+    ZURMAKIDA_REFUTED_AT_TICK = 2,   /* it fails at the record's tick, and at none before: the only code with a tick and
+                                        two values */
     ZURMAKIDA_REFUTED_BY_RATE = 3,   /* kinds 4 to 7: the left curve grows faster than the right one, so no X will do */
     ZURMAKIDA_REFUTED_NOT_LEAST = 4, /* kinds 5 and 7: X is a bound, and X-1 is one too */
     ZURMAKIDA_NOT_JUDGED = 5         /* its horizon is above 4,096 ticks */
@@ -104,27 +111,29 @@ enum zurmakida_code {
        bits 36 to 47   claims refuted (codes 2, 3 and 4)
        bits 48 to 63   claims not judged (code 5)
 
-   Refused: the totals are 0 and nothing is written. Judged: number and place are 0, the totals add up to the claims of the book, and the
-   first 21 bytes per claim of `verdicts` are written, the records in the order of the claims; the bytes after them stay as they were. */
+   Refused: the totals are 0 and nothing is written. Judged: number and place are 0, the totals add up to the claims of
+   the book, and the first 21 bytes per claim of `verdicts` are written, the records in the order of the claims; the
+   bytes after them stay as they were. */
 uint64_t judge(const uint8_t *book, size_t book_length, uint8_t *verdicts, size_t verdicts_length);
 
 /* A curve's value, or why there is none. */
 struct curve_value {
-    uint64_t refusal; /* 0 where there is a value, else refusal number + 2^8 * place, to be read like an answer of judge */
+    uint64_t refusal; /* 0 where there is a value, else refusal number + 2^8 * place, to be read like judge's answer */
     uint64_t value;   /* 0 where refused */
 };
 
-/* The value of a curve of a book at a tick. A bad book gives its refusal, as judge would with room enough; then a number that names no
-   curve is refused with 11, then a tick above 2,000,000,000 with 12, both with place 0. */
+/* The value of a curve of a book at a tick. A bad book gives its refusal, as judge would with room enough; then a
+   number that names no curve is refused with 11, then a tick above 2,000,000,000 with 12, both with place 0. */
 struct curve_value curve_value(const uint8_t *book, size_t book_length, uint64_t curve, uint64_t tick);
 
 /* ---- writing a book
 
-   Writing goes by book_begin, book_add_curve for each curve, book_add_claim for each claim, book_close. The writer's state is a number: 0
-   before book_begin, then what the last call answered. Each call is taken or refused.
+   Writing goes by book_begin, book_add_curve for each curve, book_add_claim for each claim, book_close. The writer's
+   state is a number: 0 before book_begin, then what the last call answered. Each call is taken or refused.
 
-   Taken: `refusal` is 0, the field's bytes stand in `book` after those that the calls before it wrote, no other byte of `book` is touched,
-   and `state` is the new state. Refused: `refusal` is the number, `book` is as it was, and `state` is the state that was passed.
+   Taken: `refusal` is 0, the field's bytes stand in `book` after those that the calls before it wrote, no other byte of
+   `book` is touched, and `state` is the new state. Refused: `refusal` is the number, `book` is as it was, and `state`
+   is the state that was passed.
 
        uint8_t book[ZURMAKIDA_MAX_WRITTEN_BYTES];
        const uint32_t a[] = {0, 4}, b[] = {0, 0, 0};
@@ -134,13 +143,15 @@ struct curve_value curve_value(const uint8_t *book, size_t book_length, uint64_t
        call = book_add_claim(call.state, book, sizeof book, 5, 0, 1, 3);
        call = book_close(call.state, book, sizeof book);
 
-   (with a look at call.refusal after each) leaves W8 of document 01 in the first zurmakida_written(call.state) bytes. What taken calls have
-   written, from state 0 on and into the same `book`, is always the beginning of a sound book, and after book_close a sound book.
+   (with a look at call.refusal after each) leaves W8 of document 01 in the first zurmakida_written(call.state) bytes.
+   What taken calls have written, from state 0 on and into the same `book`, is always the beginning of a sound book, and
+   after book_close a sound book.
 
    The refusals, in the order in which they are tried:
 
-        3  out of order: nothing begun, or begun already, or closed, or a curve after a claim. Also a number that is no state: one with a bit
-           above bit 47, or with more than 32,768 bytes written. (Any other number is taken for the state that its bits say.)
+        3  out of order: nothing begun, or begun already, or closed, or a curve after a claim. Also a number that is no
+           state: one with a bit above bit 47, or with more than 32,768 bytes written. (Any other number is taken for
+           the state that its bits say.)
         4  a 17th curve or a 257th claim
         7  curve: period 0, or rank + period over 256
         6  curve: the count of the values is not rank + period
@@ -161,12 +172,13 @@ struct book_call {
 struct book_call book_begin(uint64_t state, uint8_t *book, size_t book_length);
 
 /* Adds a curve: rank T, period d, increment c and `count` values, f(0) to f(T+d-1). */
-struct book_call book_add_curve(uint64_t state, uint8_t *book, size_t book_length, uint64_t rank, uint64_t period, uint64_t increment,
-                                const uint32_t *values, size_t count);
+struct book_call book_add_curve(uint64_t state, uint8_t *book, size_t book_length, uint64_t rank, uint64_t period,
+                                uint64_t increment, const uint32_t *values, size_t count);
 
-/* Adds a claim: its kind, the numbers of its left and right curve, and `third`: for kinds 1 to 3 h, the number of the claimed curve, for kinds
-   4 to 7 X. */
-struct book_call book_add_claim(uint64_t state, uint8_t *book, size_t book_length, uint64_t kind, uint64_t left, uint64_t right, uint64_t third);
+/* Adds a claim: its kind, the numbers of its left and right curve, and `third`: for kinds 1 to 3 h, the number of the
+   claimed curve, for kinds 4 to 7 X. */
+struct book_call book_add_claim(uint64_t state, uint8_t *book, size_t book_length, uint64_t kind, uint64_t left,
+                                uint64_t right, uint64_t third);
 
 /* Closes the book. */
 struct book_call book_close(uint64_t state, uint8_t *book, size_t book_length);
@@ -197,9 +209,9 @@ static inline int zurmakida_certified(uint64_t answer) {
     return zurmakida_accepted(answer) > 0 && zurmakida_accepted(answer) == zurmakida_claims(answer);
 }
 
-/* A record taken apart. In the buffer it is 21 bytes: code (1), tick (4), left (8), right (8), high byte first. Tick, left and right are 0
-   unless the code is 2. There, for kinds 1 to 3, left is the due value and right is h; for 4 and 5, f(s) and g(s+X); for 6 and 7, f(s) and
-   g(s)+X. */
+/* A record taken apart. In the buffer it is 21 bytes: code (1), tick (4), left (8), right (8), high byte first. Tick,
+   left and right are 0 unless the code is 2. There, for kinds 1 to 3, left is the due value and right is h; for 4 and
+   5, f(s) and g(s+X); for 6 and 7, f(s) and g(s)+X. */
 struct zurmakida_record {
     uint8_t code; /* of enum zurmakida_code */
     uint32_t tick;

@@ -7,7 +7,7 @@ static void print_claim(size_t claim, struct zurmakida_record record) {
     switch (record.code) {
     case ZURMAKIDA_ACCEPTED: printf("accepted\n"); break;
     case ZURMAKIDA_REFUTED_AT_TICK:
-        printf("refuted at %lu left %llu right %llu\n", (unsigned long)record.tick, (unsigned long long)record.left, (unsigned long long)record.right);
+        printf("refuted at %u left %lu right %lu\n", record.tick, record.left, record.right);
         break;
     case ZURMAKIDA_REFUTED_BY_RATE: printf("refuted by rate\n"); break;
     case ZURMAKIDA_REFUTED_NOT_LEAST: printf("refuted not least\n"); break;
@@ -26,8 +26,8 @@ int main(void) {
     }
     for (size_t claim = 0; claim < zurmakida_claims(answer); claim++)
         print_claim(claim, zurmakida_record_at(verdicts, claim));
-    printf("total %u accepted %u refuted %u unjudged %u\n", zurmakida_claims(answer), zurmakida_accepted(answer), zurmakida_refuted(answer),
-           zurmakida_not_judged(answer));
+    printf("total %u accepted %u refuted %u unjudged %u\n", zurmakida_claims(answer), zurmakida_accepted(answer),
+           zurmakida_refuted(answer), zurmakida_not_judged(answer));
     printf("certified %s\n", zurmakida_certified(answer) ? "yes" : "no");
     return 0;
 }

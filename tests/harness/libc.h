@@ -1,5 +1,8 @@
-/* What the C programs here take from glibc on x86-64 Linux, for the kit's compiler, which comes with no headers. The script `kit` puts this
-   in the place of every system header that they include. */
+/* What the C programs here take from glibc on x86-64 Linux, for the kit's compiler, which comes with no headers. The
+   script `kit` puts this in the place of every system header that they include. */
+#ifdef __cplusplus
+extern "C" {
+#endif
 typedef __UINT8_TYPE__ uint8_t;
 typedef __UINT32_TYPE__ uint32_t;
 typedef __UINT64_TYPE__ uint64_t;
@@ -40,11 +43,13 @@ int munmap(void *, size_t);
 
 #define SIGSEGV 11
 void (*signal(int, void (*)(int)))(int);
-long write(int, const void *, size_t);
-void _exit(int) __attribute__((noreturn));
 
 struct timespec {
     long tv_sec, tv_nsec;
 };
 #define CLOCK_PROCESS_CPUTIME_ID 2
 int clock_gettime(int, struct timespec *);
+
+#ifdef __cplusplus
+}
+#endif

@@ -3,21 +3,18 @@
 //! Step        a call, another lent buffer, or another state
 //! sequences   those of a seed and an index, and of nothing else: a made one and, where the case
 //!             of this seed and index has a sound book, the calls that write that book
-//! write       'W' and the steps; numbers high byte first
+//! write       'W' and the steps; numbers in 8 bytes, high byte first
 
 use crate::book::{read, Book, Claim, Curve};
 use crate::book::{MOST_BYTES, MOST_CLAIMS, MOST_CURVES, MOST_LISTED, MOST_UNITS, MOST_X};
-use crate::cases::case;
+use crate::cases::{case, write_lent, write_numbers, Lent, FAR_BITS, SENT};
 use crate::dice::Dice;
 use crate::make::{many_claims, small_book, small_curve};
 use crate::writer::{call, faults, Call, State};
 use std::io::{self, Write};
 
-/// Of a longer buffer or list only so many bytes are sent; the rest is zeros.
-pub const SENT: usize = 131_072;
-
 pub enum Step {
-    Lend { bytes: Vec<u8>, zeros: u64 },
+    Lend(Lent),
     Pass(u64),
     Call(Call),
 }
@@ -31,21 +28,21 @@ pub struct Sequence {
 
 pub fn sequences(seed: u64, index: u64) -> Vec<Sequence> {
     let made = made(seed, index);
-    match read(&case(seed, index).book) {
+    match read(&case(seed, index).book.bytes) {
         Ok(book) => vec![made, again(seed, index, &book)],
         Err(_) => vec![made],
     }
 }
 
-/// Every so many sequences one lends more than 2^32 bytes.
-const FAR: u64 = 2_500;
+/// Every so many sequences one lends far more than the low bits of the length say.
+const FAR: u64 = 500;
 
 fn made(seed: u64, index: u64) -> Sequence {
     // A seed of its own: the cases have the indices of the seed itself.
     let mut dice = Dice::new(!seed, index);
     let mut script = Script::new(&mut dice);
     let label = match script.dice.below(1_000) {
-        _ if index % FAR == FAR - 1 => script.far(),
+        _ if index % FAR == FAR - 1 => script.far(index / FAR),
         0..=4 => script.largest(),
         5..=9 => script.full(),
         10..=199 => script.forged(),
@@ -91,7 +88,7 @@ struct Script<'a> {
     steps: Vec<Step>,
     state: u64,
     room: Vec<u8>,
-    zeros: u64,
+    length: u64,
 }
 
 impl<'a> Script<'a> {
@@ -101,29 +98,28 @@ impl<'a> Script<'a> {
             steps: vec![],
             state: 0,
             room: vec![],
-            zeros: 0,
+            length: 0,
         }
     }
 
     /// The refusal, 0 for none.
     fn call(&mut self, next: Call) -> u64 {
-        let length = self.room.len() as u64 + self.zeros;
-        let faults = faults(&next, self.state, length);
+        let faults = faults(&next, self.state, self.length);
         let (refusal, state) = call(&next, &faults, self.state, &mut self.room);
         self.state = state;
         self.steps.push(Step::Call(next));
         refusal
     }
 
-    fn lend_bytes(&mut self, bytes: Vec<u8>, zeros: u64) {
-        self.room = bytes.clone();
-        self.zeros = zeros;
-        self.steps.push(Step::Lend { bytes, zeros });
+    fn lend_this(&mut self, lent: Lent) {
+        self.room = lent.bytes.clone();
+        self.length = lent.length();
+        self.steps.push(Step::Lend(lent));
     }
 
     fn lend(&mut self, length: usize) {
         let bytes = self.dice.bytes(length);
-        self.lend_bytes(bytes, 0);
+        self.lend_this(Lent::all(bytes));
     }
 
     /// Another length, and in it what was written so far, as far as it goes.
@@ -131,7 +127,7 @@ impl<'a> Script<'a> {
         let mut bytes = self.dice.bytes(length);
         let kept = self.written().min(length).min(self.room.len());
         bytes[..kept].copy_from_slice(&self.room[..kept]);
-        self.lend_bytes(bytes, 0);
+        self.lend_this(Lent::all(bytes));
     }
 
     fn pass(&mut self, state: u64) {
@@ -310,27 +306,29 @@ impl<'a> Script<'a> {
         }
     }
 
-    /// Lengths and counts of which 32 bits say something else.
-    fn far(&mut self) -> &'static str {
-        let wrap = 1u64 << 32;
-        let bytes = self.dice.bytes(SENT);
-        let low = self.dice.below(12) as u64;
-        self.lend_bytes(bytes, wrap + low - SENT as u64);
+    /// By the low bits of its length alone the buffer would be too short, or the list just right.
+    fn far(&mut self, turn: u64) -> &'static str {
+        let far = 1u64 << FAR_BITS[(turn % 5) as usize];
+        let length = far + self.dice.below(12) as u64;
+        let bytes = self.dice.bytes(length.min(SENT as u64) as usize);
+        self.lend_this(Lent::long(bytes, length));
         self.call(Call::Begin);
         let mut curve = any_curve(self.dice);
         curve.values.fill(0);
         self.call(Call::of_curve(&curve));
+        // The values need four times as many bytes.
+        let far = far.min(1 << 32);
         self.call(Call::Curve {
             rank: curve.t as u64,
             period: curve.d as u64,
             increment: curve.c as u64,
             values: vec![0; SENT / 4],
-            zeros: wrap + (curve.t + curve.d) as u64 - (SENT / 4) as u64,
+            zeros: far + (curve.t + curve.d) as u64 - (SENT / 4) as u64,
         });
         let claim = sound_claim(self.dice, self.curves());
         self.call(Call::of_claim(&claim));
         self.call(Call::Close);
-        "lengths above 2^32"
+        "a far longer buffer, a far longer list"
     }
 }
 
@@ -641,7 +639,7 @@ fn forged_state(dice: &mut Dice) -> u64 {
 
 pub fn write(sequence: &Sequence, out: &mut impl Write) -> io::Result<()> {
     out.write_all(b"W")?;
-    out.write_all(&(sequence.steps.len() as u32).to_be_bytes())?;
+    write_numbers(&[sequence.steps.len() as u64], out)?;
     for step in &sequence.steps {
         write_step(step, out)?;
     }
@@ -650,38 +648,43 @@ pub fn write(sequence: &Sequence, out: &mut impl Write) -> io::Result<()> {
 
 fn write_step(step: &Step, out: &mut impl Write) -> io::Result<()> {
     match step {
-        Step::Lend { bytes, zeros } => {
-            write_numbers(b'l', &[bytes.len() as u64 + zeros], out)?;
-            out.write_all(bytes)
+        Step::Lend(lent) => {
+            out.write_all(b"l")?;
+            write_lent(lent, out)
         }
-        Step::Pass(state) => write_numbers(b's', &[*state], out),
-        Step::Call(Call::Begin) => out.write_all(b"b"),
-        Step::Call(Call::Close) => out.write_all(b"e"),
-        Step::Call(Call::Claim {
+        Step::Pass(state) => {
+            out.write_all(b"s")?;
+            write_numbers(&[*state], out)
+        }
+        Step::Call(call) => write_call(call, out),
+    }
+}
+
+fn write_call(call: &Call, out: &mut impl Write) -> io::Result<()> {
+    match call {
+        Call::Begin => out.write_all(b"b"),
+        Call::Close => out.write_all(b"e"),
+        Call::Claim {
             kind,
             left,
             right,
             third,
-        }) => write_numbers(b'k', &[*kind, *left, *right, *third], out),
-        Step::Call(Call::Curve {
+        } => {
+            out.write_all(b"k")?;
+            write_numbers(&[*kind, *left, *right, *third], out)
+        }
+        Call::Curve {
             rank,
             period,
             increment,
             values,
             zeros,
-        }) => {
+        } => {
             let count = values.len() as u64 + zeros;
-            write_numbers(b'c', &[*rank, *period, *increment, count], out)?;
+            out.write_all(b"c")?;
+            write_numbers(&[*rank, *period, *increment, count], out)?;
             let bytes: Vec<u8> = values.iter().flat_map(|v| v.to_be_bytes()).collect();
             out.write_all(&bytes)
         }
     }
-}
-
-fn write_numbers(letter: u8, numbers: &[u64], out: &mut impl Write) -> io::Result<()> {
-    out.write_all(&[letter])?;
-    for number in numbers {
-        out.write_all(&number.to_be_bytes())?;
-    }
-    Ok(())
 }

@@ -6,10 +6,12 @@
 
 use crate::book::{join, read, Book, Field, END, MOST_CLAIMS, MOST_CURVES};
 use crate::calls::{sequences, Sequence, Step};
+use crate::cases::{Lent, FAR_BITS};
 use crate::check::{finished, take, take_number};
+use crate::header::take_said;
 use crate::text::hex;
 use crate::writer::{call, faults, faults_of, Call, Fault, State, NAMES};
-use std::collections::BTreeMap;
+use std::collections::{BTreeMap, BTreeSet};
 use std::io::Read;
 
 #[derive(Default)]
@@ -24,7 +26,8 @@ struct Seen {
     /// Of sound calls by field: with just enough room, and with one byte less.
     rooms: BTreeMap<&'static str, [u64; 2]>,
     forged: u64,
-    far: u64,
+    /// The highest bits of the buffers' lengths.
+    far: BTreeSet<u32>,
     books: u64,
     closed: u64,
     largest: u64,
@@ -78,7 +81,7 @@ impl<'a> Follower<'a> {
     fn follow(&mut self, sequence: &Sequence, answers: &mut impl Read) -> Result<(), String> {
         for (at, step) in sequence.steps.iter().enumerate() {
             match step {
-                Step::Lend { bytes, zeros } => self.lend(bytes, *zeros),
+                Step::Lend(lent) => self.lend(lent),
                 Step::Pass(state) => {
                     self.state = *state;
                     self.forged = true;
@@ -92,15 +95,16 @@ impl<'a> Follower<'a> {
         self.read_back(sequence)
     }
 
-    fn lend(&mut self, bytes: &[u8], zeros: u64) {
+    fn lend(&mut self, lent: &Lent) {
+        let bytes = &lent.bytes;
         let written = State::of(self.state).written as usize;
         let kept = self.room.get(..written);
         if kept.is_none() || kept != bytes.get(..written) {
             self.book = None;
         }
-        self.room = bytes.to_vec();
-        self.got = bytes.to_vec();
-        self.length = bytes.len() as u64 + zeros;
+        self.room = bytes.clone();
+        self.got = bytes.clone();
+        self.length = lent.length();
     }
 
     fn call(&mut self, next: &Call, answers: &mut impl Read) -> Result<(), String> {
@@ -121,6 +125,7 @@ impl<'a> Follower<'a> {
             let first = both.find(|(_, (due, got))| due != got);
             return Err(format!("the buffer differs, (byte, (due, got)) {first:?}"));
         }
+        take_said(answers, "written", State::of(state).written)?;
         self.state = state;
         if let (0, Some(book)) = (refusal, &mut self.book) {
             book.curves.extend(next.curve());
@@ -211,7 +216,7 @@ impl Seen {
     fn call(&mut self, next: &Call, faults: &[Fault], state: u64, length: u64, forged: bool) {
         self.calls += 1;
         self.forged += u64::from(forged);
-        self.far += u64::from(length >> 32 > 0);
+        self.far.extend(length.checked_ilog2());
         let name = next.name();
         if let Some(first) = faults.first() {
             let given = self.refusals.entry(*first).or_default();
@@ -260,8 +265,10 @@ impl Seen {
                 missing.push(format!("{field} with just enough room, or one byte less"));
             }
         }
+        for bit in FAR_BITS.iter().filter(|bit| !self.far.contains(bit)) {
+            missing.push(format!("a buffer of 2^{bit} bytes and more"));
+        }
         for (count, what) in [
-            (self.far, "a buffer above 2^32 bytes"),
             (self.closed, "a book closed and read back"),
             (self.largest, "a book of 16 curves and 256 claims"),
             (self.again, "a sound book of the cases"),

@@ -1,18 +1,29 @@
 //! The cases: which case has which seed and index, and its form on the wire.
 //!
+//! Lent     bytes to be lent, and how many zeros after them that are not sent
 //! case     the case of a seed and an index, and of nothing else
-//! write    'J' book room, or 'V' book curve tick; numbers high byte first
+//! write    'J' book room, or 'V' book curve tick; numbers in 8 bytes, high byte first
 
-use crate::book::read;
+use crate::book::{read, Book};
 use crate::dice::Dice;
 use crate::judge::{MOST_TICK, RECORD};
-use crate::make::{crossing_book, large_book, many_claims, ranks_book, small_book, unjudged_book};
+use crate::make::{crossing_book, full_of, large_book, many_claims};
+use crate::make::{ranks_book, small_book, unjudged_book};
+use crate::shared::shared_book;
 use crate::spoil::{long_book, rubbish, spoil_bytes, spoil_fields, spoil_twice};
 use std::io::{self, Write};
 
+/// Of what is longer only so many bytes are sent; the rest is zeros.
+pub const SENT: usize = 131_072;
+
+pub struct Lent {
+    pub bytes: Vec<u8>,
+    pub zeros: u64,
+}
+
 pub enum Ask {
     /// The lent buffer as it is before the call.
-    Judge(Vec<u8>),
+    Judge(Lent),
     Value {
         curve: u64,
         tick: u64,
@@ -21,29 +32,119 @@ pub enum Ask {
 
 pub struct Case {
     pub label: &'static str,
-    pub book: Vec<u8>,
+    pub book: Lent,
     pub ask: Ask,
 }
 
+impl Case {
+    fn of(label: &'static str, book: Vec<u8>, ask: Ask) -> Case {
+        let book = Lent::all(book);
+        Case { label, book, ask }
+    }
+}
+
+impl Lent {
+    pub fn all(bytes: Vec<u8>) -> Lent {
+        Lent { bytes, zeros: 0 }
+    }
+
+    /// These bytes and zeros after them, up to this length.
+    pub fn long(mut bytes: Vec<u8>, length: u64) -> Lent {
+        let sent = length.min(SENT as u64);
+        bytes.resize(sent as usize, 0);
+        let zeros = length - sent;
+        Lent { bytes, zeros }
+    }
+
+    pub fn length(&self) -> u64 {
+        self.bytes.len() as u64 + self.zeros
+    }
+}
+
+/// These classes come at fixed indices, so that some thousand cases have all of them; no two meet.
+///
 /// Every tenth case tears a book; 150 of them in a row tear the same one, each at
 /// another length, so a book of up to 149 bytes is torn at every length.
 const TORN: u64 = 10;
 const LENGTHS: u64 = 150;
+const SHARED: u64 = 30;
+const FAR: u64 = 250;
+const TOTALS: u64 = 300;
+
+pub const SHARING: &str = "periods that share divisors";
+
+/// The codes of each of the three totals.
+pub const CODES: [&[u8]; 3] = [&[1], &[2, 3, 4], &[5]];
 
 pub fn case(seed: u64, index: u64) -> Case {
     let mut dice = Dice::new(seed, index);
-    if index % TORN == TORN - 1 {
+    if index % TORN == 9 {
         let book = torn(seed, index / TORN);
         let ask = ask(&mut dice, &book);
-        return Case {
-            label: "torn",
-            book,
-            ask,
-        };
+        return Case::of("torn", book, ask);
+    }
+    if index % SHARED == 4 {
+        let book = shared_book(&mut dice, index / SHARED);
+        return judged(&mut dice, SHARING, &book);
+    }
+    if index % TOTALS == 2 {
+        let book = full_of(&mut dice, CODES[(index / TOTALS % 3) as usize]);
+        return judged(&mut dice, "256 in one total", &book);
+    }
+    if index % FAR == 7 {
+        return far_case(&mut dice, index / FAR);
     }
     let (label, book) = any_book(&mut dice);
     let ask = ask(&mut dice, &book);
+    Case::of(label, book, ask)
+}
+
+/// With a buffer that is long enough.
+fn judged(dice: &mut Dice, label: &'static str, book: &Book) -> Case {
+    let more = dice.pick(&[0, 0, 1, 60]);
+    let room = room(dice, book.claims.len() * RECORD + more);
+    Case::of(label, book.bytes(), Ask::Judge(Lent::all(room)))
+}
+
+/// So far the lengths of far cases go beyond what their low bits say.
+pub const FAR_BITS: [u32; 5] = [16, 24, 31, 32, 33];
+
+/// By the low bits of its length alone the book would be sound, or the buffer too short.
+fn far_case(dice: &mut Dice, turn: u64) -> Case {
+    let far = 1 << FAR_BITS[(turn / 3 % 5) as usize];
+    let book = sound_book(dice);
+    let exact = book.claims.len() * RECORD;
+    if turn % 3 == 0 {
+        let length = far + dice.index(exact) as u64;
+        let room = room(dice, length.min(SENT as u64) as usize);
+        let ask = Ask::Judge(Lent::long(room, length));
+        return Case::of("a far longer buffer", book.bytes(), ask);
+    }
+    let (label, ask) = if turn % 3 == 1 {
+        let room = room(dice, exact);
+        ("a far longer book", Ask::Judge(Lent::all(room)))
+    } else {
+        let ask = value_ask(dice, &listed(&book));
+        ("a far longer book, asked for a value", ask)
+    };
+    let bytes = book.bytes();
+    let length = far + bytes.len() as u64;
+    let book = Lent::long(bytes, length);
     Case { label, book, ask }
+}
+
+/// With a claim.
+fn sound_book(dice: &mut Dice) -> Book {
+    loop {
+        let book = small_book(dice, false);
+        if !book.claims.is_empty() {
+            return book;
+        }
+    }
+}
+
+fn listed(book: &Book) -> Vec<i64> {
+    book.curves.iter().map(|c| c.t + c.d).collect()
 }
 
 fn torn(seed: u64, turn: u64) -> Vec<u8> {
@@ -81,21 +182,23 @@ fn any_book(dice: &mut Dice) -> (&'static str, Vec<u8>) {
 fn ask(dice: &mut Dice, book: &[u8]) -> Ask {
     let sound = read(book).ok();
     if dice.once_in(12) {
-        let listed: Vec<i64> = match &sound {
-            Some(sound) => sound.curves.iter().map(|c| c.t + c.d).collect(),
-            None => vec![],
-        };
+        let listed = sound.as_ref().map(listed).unwrap_or_default();
         return value_ask(dice, &listed);
     }
-    let room = match sound {
+    let length = match sound {
         Some(sound) => room_for(dice, sound.claims.len() * RECORD),
         None => dice.index(100),
     };
-    let mut room = dice.bytes(room);
+    Ask::Judge(Lent::all(room(dice, length)))
+}
+
+/// Any bytes, of which the first is not 0.
+fn room(dice: &mut Dice, length: usize) -> Vec<u8> {
+    let mut room = dice.bytes(length);
     if let Some(first) = room.first_mut() {
         *first |= 1;
     }
-    Ask::Judge(room)
+    room
 }
 
 /// Half exact, else longer by 1 to 60, too short, or empty.
@@ -132,17 +235,21 @@ pub fn write(case: &Case, out: &mut impl Write) -> io::Result<()> {
         Ask::Value { .. } => b'V',
     };
     out.write_all(&[head])?;
-    write_long(&case.book, out)?;
+    write_lent(&case.book, out)?;
     match &case.ask {
-        Ask::Judge(room) => write_long(room, out),
-        Ask::Value { curve, tick } => {
-            out.write_all(&curve.to_be_bytes())?;
-            out.write_all(&tick.to_be_bytes())
-        }
+        Ask::Judge(room) => write_lent(room, out),
+        Ask::Value { curve, tick } => write_numbers(&[*curve, *tick], out),
     }
 }
 
-fn write_long(bytes: &[u8], out: &mut impl Write) -> io::Result<()> {
-    out.write_all(&(bytes.len() as u32).to_be_bytes())?;
-    out.write_all(bytes)
+pub fn write_lent(lent: &Lent, out: &mut impl Write) -> io::Result<()> {
+    write_numbers(&[lent.length()], out)?;
+    out.write_all(&lent.bytes)
+}
+
+pub fn write_numbers(numbers: &[u64], out: &mut impl Write) -> io::Result<()> {
+    for number in numbers {
+        out.write_all(&number.to_be_bytes())?;
+    }
+    Ok(())
 }

@@ -1,15 +1,17 @@
 //! Answers compared with the due ones, byte for byte, and what the cases have reached.
 //!
 //! check    reads one answer for each case; the first difference ends the run
-//! Seen     counts of refusals by reason, verdicts by kind and code, buffers by length
+//! Seen     counts of refusals by reason, verdicts by kind and code, buffers by length, and more
 
-use crate::book::{Refusal, REASONS};
-use crate::cases::{case, Ask, Case};
-use crate::judge::{answer, ask_value, decide, refusal_number, room_enough, RECORD};
-use crate::law::Verdict;
+use crate::book::{read, Refusal, MOST_CLAIMS, REASONS};
+use crate::cases::{case, Ask, Case, Lent, CODES, FAR_BITS, SHARING};
+use crate::header::{record, take_record, take_said, Parts};
+use crate::judge::{answer, ask_value, decide, refusal_number, room_enough, Totals, RECORD};
+use crate::law::{horizon, pace, Verdict};
+use crate::shared::{RATES, TARGETS};
 use crate::text::{hex, words};
 use std::cmp::Ordering;
-use std::collections::BTreeMap;
+use std::collections::{BTreeMap, BTreeSet};
 use std::io::Read;
 
 /// The codes that a kind can have.
@@ -29,6 +31,12 @@ struct Seen {
     refusals: BTreeMap<(u8, &'static str), u64>,
     verdicts: BTreeMap<(u8, u8), u64>,
     rooms: [u64; 3],
+    /// 256 claims accepted, refuted, not judged.
+    full: [u64; 3],
+    /// Kind, horizon, and f's rate against g's, of the claims whose periods share divisors.
+    sharing: BTreeSet<(u8, i64, Ordering)>,
+    /// What was long, and the highest bit of its length.
+    far: BTreeSet<(&'static str, u32)>,
     values: u64,
     asked_refusals: BTreeMap<(u8, bool), u64>,
 }
@@ -39,13 +47,15 @@ pub fn check(seed: u64, count: u64, answers: &mut impl Read) -> Result<String, S
     for index in 0..count {
         let case = case(seed, index);
         *seen.labels.entry(case.label).or_default() += 1;
+        seen.lengths(&case);
         let compared = match &case.ask {
             Ask::Judge(room) => judge_case(&case, room, answers, &mut seen),
             Ask::Value { curve, tick } => value_case(&case, *curve, *tick, answers, &mut seen),
         };
         compared.map_err(|report| {
-            let book = hex(&case.book);
-            format!("case {index} ({}): {report}\nbook {book}\n", case.label)
+            let (length, book) = (case.book.length(), hex(&case.book.bytes));
+            let label = case.label;
+            format!("case {index} ({label}): {report}\nbook of {length} bytes {book}\n")
         })?;
     }
     if !take(answers, 1).is_err_and(|e| e.is_empty()) {
@@ -70,27 +80,62 @@ pub fn take_number(answers: &mut impl Read) -> Result<u64, String> {
 
 fn judge_case(
     case: &Case,
-    room: &[u8],
+    room: &Lent,
     answers: &mut impl Read,
     seen: &mut Seen,
 ) -> Result<(), String> {
-    let decision = decide(&case.book);
-    seen.judge(&decision, room.len());
-    let mut due_room = room.to_vec();
+    // What is not sent is over 32,768 bytes, or more than any records need.
+    let decision = decide(&case.book.bytes);
+    seen.judge(case, &decision, room.bytes.len());
+    let mut due_room = room.bytes.clone();
     let due = answer(&decision, &mut due_room);
     let got = take_number(answers)?;
-    let got_room = take(answers, room.len()).map_err(|_| "the buffer is missing")?;
+    let got_room = take(answers, room.bytes.len()).map_err(|_| "the buffer is missing")?;
     if got == due && got_room == due_room {
-        return Ok(());
+        return header_says(&decision, room.bytes.len(), answers);
     }
-    let mut report = format!("judge, buffer of {} bytes\n", room.len());
+    let mut report = format!("judge, buffer of {} bytes\n", room.length());
     if got != due {
         report += &format!("due {}\ngot {}\n", spelled(due), spelled(got));
     }
-    if let Some(at) = (0..room.len()).find(|i| got_room[*i] != due_room[*i]) {
+    if let Some(at) = (0..due_room.len()).find(|i| got_room[*i] != due_room[*i]) {
         report += &room_report(&decision, &due_room, &got_room, at);
     }
     Err(report)
+}
+
+/// Of an answer that is right, and of its records.
+fn header_says(
+    decision: &Result<Vec<(u8, Verdict)>, Refusal>,
+    room: usize,
+    answers: &mut impl Read,
+) -> Result<(), String> {
+    let refused = match decision {
+        Ok(verdicts) => room_enough(verdicts.len(), room).err(),
+        Err(refusal) => Some(*refusal),
+    };
+    if let Some(Refusal { number, place, .. }) = refused {
+        let parts = Parts {
+            refusal: number.into(),
+            place: place as u64,
+            ..Parts::default()
+        };
+        return parts.take(answers);
+    }
+    let verdicts = decision.as_ref().map_or(&[][..], |verdicts| verdicts);
+    let totals = Totals::of(verdicts);
+    let parts = Parts {
+        accepted: totals.accepted,
+        refuted: totals.refuted,
+        unjudged: totals.unjudged,
+        ..Parts::default()
+    };
+    parts.take(answers)?;
+    for (claim, (_, verdict)) in verdicts.iter().enumerate() {
+        take_record(answers, record(verdict))
+            .map_err(|report| format!("record {claim}: {report}"))?;
+    }
+    Ok(())
 }
 
 fn spelled(answer: u64) -> String {
@@ -137,7 +182,7 @@ fn value_case(
     answers: &mut impl Read,
     seen: &mut Seen,
 ) -> Result<(), String> {
-    let outcome = ask_value(&case.book, curve, tick);
+    let outcome = ask_value(&case.book.bytes, curve, tick);
     seen.value(&outcome);
     let (due_refusal, due_value) = match &outcome {
         Ok(value) => (0, *value),
@@ -146,7 +191,9 @@ fn value_case(
     let refusal = take_number(answers)?;
     let value = take_number(answers)?;
     if (refusal, value) == (due_refusal, due_value) {
-        return Ok(());
+        let (number, place) = outcome.err().map_or((0, 0), |r| (r.number.into(), r.place));
+        take_said(answers, "refusal", number)?;
+        return take_said(answers, "place", place as u64);
     }
     Err(format!(
         "value of curve {curve} at tick {tick}\n\
@@ -159,7 +206,17 @@ fn value_case(
 }
 
 impl Seen {
-    fn judge(&mut self, decision: &Result<Vec<(u8, Verdict)>, Refusal>, room: usize) {
+    fn lengths(&mut self, case: &Case) {
+        let book = case.book.length();
+        let lengths = match &case.ask {
+            Ask::Judge(room) => vec![("a book", book), ("a buffer", room.length())],
+            Ask::Value { .. } => vec![("a book asked for a value", book)],
+        };
+        let highest = |(what, length): (_, u64)| Some((what, length.checked_ilog2()?));
+        self.far.extend(lengths.into_iter().filter_map(highest));
+    }
+
+    fn judge(&mut self, case: &Case, decision: &Result<Vec<(u8, Verdict)>, Refusal>, room: usize) {
         self.judged += 1;
         let verdicts = match decision {
             Ok(verdicts) => verdicts,
@@ -177,6 +234,25 @@ impl Seen {
         for (kind, verdict) in verdicts {
             self.claims += 1;
             *self.verdicts.entry((*kind, verdict.code())).or_default() += 1;
+        }
+        for (full, codes) in self.full.iter_mut().zip(CODES) {
+            let counted = verdicts.iter().filter(|(_, v)| codes.contains(&v.code()));
+            *full += u64::from(counted.count() == MOST_CLAIMS);
+        }
+        if case.label == SHARING {
+            self.share(&case.book.bytes);
+        }
+    }
+
+    fn share(&mut self, book: &[u8]) {
+        let book = read(book).expect("a book that was judged");
+        for claim in &book.claims {
+            let (f, g) = (
+                &book.curves[claim.left as usize],
+                &book.curves[claim.right as usize],
+            );
+            let reached = (claim.kind, horizon(&book, claim), pace(f, g));
+            self.sharing.insert(reached);
         }
     }
 
@@ -218,7 +294,31 @@ impl Seen {
                 missing.push(format!("a buffer that is {name}"));
             }
         }
+        missing.extend(self.missing_limits());
         missing.extend(self.missing_values());
+        missing
+    }
+
+    fn missing_limits(&self) -> Vec<String> {
+        let mut missing = Vec::new();
+        for (full, name) in self.full.iter().zip(["accepted", "refuted", "not judged"]) {
+            if *full == 0 {
+                missing.push(format!("256 claims {name}"));
+            }
+        }
+        for what in ["a book", "a book asked for a value", "a buffer"] {
+            let unseen = |bit: &&u32| !self.far.contains(&(what, **bit));
+            for bit in FAR_BITS.iter().filter(unseen) {
+                missing.push(format!("{what} of 2^{bit} bytes and more"));
+            }
+        }
+        for kind in 1..=7 {
+            for (target, rates) in TARGETS.iter().flat_map(|t| RATES.map(|r| (*t, r))) {
+                if !self.sharing.contains(&(kind, target, rates)) {
+                    missing.push(format!("{SHARING}: {kind}, {target}, rates {rates:?}"));
+                }
+            }
+        }
         missing
     }
 
@@ -261,6 +361,12 @@ impl Seen {
             "books judged {}, claims {}; buffers of sound books: \
              too short {short}, exact {exact}, too long {long}\n",
             self.judged, self.claims
+        );
+        let [accepted, refuted, unjudged] = self.full;
+        text += &format!(
+            "256 claims accepted {accepted}, refuted {refuted}, not judged {unjudged}; \
+             {SHARING}: {} kinds with horizons and rates\n",
+            self.sharing.len()
         );
         text + &self.value_summary()
     }

@@ -1,6 +1,8 @@
 //! The books of books/ with the lines due for each. For W1 to W12, for the two zero sums
 //! and for the empty input the lines are document 01's own, written out here; the judge
-//! of this program has to give the same. The others' lines are this program's.
+//! of this program has to give the same. So are those of `ranks`, `slower_ranks`,
+//! `before_the_rank` and `shared_divisors`, worked out by hand, and of the refused books;
+//! those of `mixed` and `full` are this program's.
 
 use crate::book::{Book, Curve, MOST_CLAIMS};
 use crate::law::{horizon, value};
@@ -149,6 +151,93 @@ fn before_the_rank() -> Book {
     book(vec![f, line(0, 1, 1, 0), line(0, 1, 0, 0)], &[(3, 0, 1, 2)])
 }
 
+const ACCEPTED: &str = "accepted";
+const NOT_JUDGED: &str = "not judged";
+const AT_1: &str = "refuted at 1 left 1 right 0";
+
+/// A claim, its horizon and its verdict.
+type Row = ((u8, u8, u8, i64), i64, &'static str);
+
+/// Periods 64 and 128 have D = 128, 124 and 128 have D = 3,968. With h's period, P is 128 for 1,
+/// 3,968 for 62 and 3,712 for 58. The ranks of f and g are 0, or 128 on both sides, or 128 and 129;
+/// h's is below R.
+fn shared_divisors() -> (Book, Vec<Row>) {
+    let curves = vec![
+        line(0, 64, 0, 0),
+        line(0, 128, 1, 0),
+        line(0, 1, 0, 0),
+        line(0, 1, 1, 0),
+        line(128, 128, 0, 0),
+        line(128, 64, 0, 0),
+        line(129, 64, 0, 0),
+        line(128, 64, 1, 0),
+        line(129, 64, 1, 0),
+        line(100, 62, 0, 0),
+        line(100, 62, 1, 0),
+        line(190, 58, 0, 0),
+        line(128, 124, 0, 0),
+        line(129, 124, 0, 0),
+        line(128, 124, 1, 0),
+        line(129, 124, 1, 0),
+    ];
+    let mut rows = vec![
+        // The product of the periods, 8,192, would be above the limit by itself.
+        ((3, 0, 1, 2), 256, ACCEPTED),
+        ((3, 1, 0, 2), 256, ACCEPTED),
+        ((2, 0, 1, 2), 128, ACCEPTED),
+        ((2, 1, 0, 2), 128, ACCEPTED),
+        ((1, 0, 1, 3), 128, ACCEPTED),
+        // The sum, with equal rates and with the right one faster and slower: max(T,T')+P.
+        ((1, 4, 5, 9), 4_096, ACCEPTED),
+        ((1, 4, 6, 9), 4_097, NOT_JUDGED),
+        ((1, 4, 7, 10), 4_096, ACCEPTED),
+        ((1, 4, 8, 10), 4_097, NOT_JUDGED),
+        ((1, 7, 4, 10), 4_096, ACCEPTED),
+        ((1, 8, 4, 10), 4_097, NOT_JUDGED),
+        // The minimum, in the same order.
+        ((2, 4, 5, 9), 4_096, ACCEPTED),
+        ((2, 4, 6, 9), 4_097, NOT_JUDGED),
+        ((2, 4, 7, 9), 4_096, ACCEPTED),
+        ((2, 4, 8, 9), 4_097, NOT_JUDGED),
+        ((2, 7, 4, 9), 4_096, ACCEPTED),
+        ((2, 8, 4, 9), 4_097, NOT_JUDGED),
+        // The convolution: T+T'+D+P; N is T+T'-1.
+        ((3, 4, 5, 11), 4_096, ACCEPTED),
+        ((3, 4, 6, 11), 4_097, NOT_JUDGED),
+        ((3, 4, 7, 11), 4_096, ACCEPTED),
+        ((3, 4, 8, 11), 4_097, NOT_JUDGED),
+        ((3, 7, 4, 11), 4_096, ACCEPTED),
+        ((3, 8, 4, 11), 4_097, NOT_JUDGED),
+    ];
+    // Kinds 4 to 7: max(T,T')+D.
+    for kind in 4..=7 {
+        rows.extend([
+            ((kind, 0, 1, 0), 128, ACCEPTED),
+            ((kind, 4, 12, 0), 4_096, ACCEPTED),
+            ((kind, 4, 13, 0), 4_097, NOT_JUDGED),
+            ((kind, 4, 14, 0), 4_096, ACCEPTED),
+            ((kind, 4, 15, 0), 4_097, NOT_JUDGED),
+            ((kind, 14, 4, 0), 4_096, AT_1),
+            ((kind, 15, 4, 0), 4_097, NOT_JUDGED),
+        ]);
+    }
+    let claims: Vec<_> = rows.iter().map(|(claim, ..)| *claim).collect();
+    (book(curves, &claims), rows)
+}
+
+/// The lines of the rows.
+fn rows_text(rows: &[Row]) -> String {
+    let mut text = String::new();
+    for (k, (.., verdict)) in rows.iter().enumerate() {
+        text += &format!("claim {k} {verdict}\n");
+    }
+    let count = |wanted| rows.iter().filter(|(.., v)| *v == wanted).count();
+    let (all, accepted, unjudged) = (rows.len(), count(ACCEPTED), count(NOT_JUDGED));
+    let refuted = all - accepted - unjudged;
+    text += &format!("total {all} accepted {accepted} refuted {refuted} unjudged {unjudged}\n");
+    text + "certified no\n"
+}
+
 /// Every code that each kind can have. Curve 6 with curve 7 has a horizon of 4,097.
 fn mixed() -> Book {
     let curves = vec![
@@ -205,6 +294,8 @@ pub fn examples() -> Result<Vec<Example>, String> {
     all.push(("slower_ranks", slower_ranks().bytes(), four.into()));
     let at_3 = refuted("at 3 left 1 right 0");
     all.push(("before_the_rank", before_the_rank().bytes(), at_3));
+    let (shared, rows) = shared_divisors();
+    all.push(("shared_divisors", shared.bytes(), rows_text(&rows)));
     all.push(("empty", vec![], "refused 1 at 0\n".into()));
     // The claim of W8 stands at byte 46: 4 of the version, 19 of A and 23 of B before it.
     all.push(("torn", W8[..50].to_vec(), "refused 1 at 46\n".into()));
@@ -244,11 +335,18 @@ fn stated_facts() -> Result<(), String> {
         ("W4's horizon is 6", of(4) == 6),
         ("W6's horizon is 6", of(6) == 6),
         ("W8 in full", stated[7].1.bytes() == W8),
+        ("the horizons of shared_divisors", horizons_are_stated()),
     ];
     match facts.iter().find(|(_, holds)| !holds) {
         Some((fact, _)) => Err(format!("not so: {fact}")),
         None => Ok(()),
     }
+}
+
+fn horizons_are_stated() -> bool {
+    let (book, rows) = shared_divisors();
+    let mut both = book.claims.iter().zip(&rows);
+    both.all(|(claim, (_, stated, _))| horizon(&book, claim) == *stated)
 }
 
 pub fn write_examples(examples: &[Example], folder: &Path) -> io::Result<()> {

@@ -3,6 +3,7 @@
 //! book.rs      the layout, read and written        law.rs       values, horizons, verdicts
 //! judge.rs     the entries' answers                text.rs      the program's lines
 //! make.rs      sound books                         spoil.rs     spoiled ones
+//! shared.rs    periods that share divisors         header.rs    what the header for C says
 //! cases.rs     the cases and their form            check.rs     answers compared
 //! writer.rs    the writer's answers and state      calls.rs     sequences of its calls
 //! calls_check.rs   their answers compared, and every byte
@@ -18,9 +19,11 @@ mod cases;
 mod check;
 mod dice;
 mod examples;
+mod header;
 mod judge;
 mod law;
 mod make;
+mod shared;
 mod spoil;
 mod text;
 mod writer;
@@ -35,9 +38,13 @@ independent cases SEED COUNT     writes cases
 independent check SEED COUNT     reads their answers and compares
 independent calls SEED COUNT     writes sequences of the writer's calls
 independent check_calls SEED COUNT   reads their answers and compares
+independent header SEED COUNT    writes calls of the header's functions
+independent check_header SEED COUNT  reads what they say, and the constants, and compares
+independent names                prints every name that the header may have
 independent beyond SEED COUNT    tries COUNT claims of each kind far beyond the horizon
 independent examples DIR         writes the example books and their lines
 independent lines < BOOK         prints the lines due for a book
+independent shown < BOOK         prints the lines of the header's own example for a book
 independent time TURNS < BOOK    prints the least time of a turn in nanoseconds
 independent bench NAME           writes a book to measure with: worst, sum, minimum,
                                  convolution, delay, exact_delay, backlog, exact_backlog,
@@ -52,9 +59,13 @@ fn main() -> ExitCode {
         ["check", seed, count] => check(seed, count),
         ["calls", seed, count] => calls(seed, count),
         ["check_calls", seed, count] => check_calls(seed, count),
+        ["header", seed, count] => header(seed, count),
+        ["check_header", seed, count] => check_header(seed, count),
+        ["names"] => names(),
         ["beyond", seed, count] => beyond(seed, count),
         ["examples", folder] => examples(folder),
         ["lines"] => lines(),
+        ["shown"] => shown(),
         ["time", turns] => time(turns),
         ["bench", name] => bench(name),
         _ => {
@@ -119,6 +130,26 @@ fn check_calls(seed: &str, count: &str) -> Result<(), String> {
     Ok(())
 }
 
+fn header(seed: &str, count: &str) -> Result<(), String> {
+    let mut out = BufWriter::new(io::stdout().lock());
+    header::write(number(seed)?, number(count)?, &mut out).map_err(failed)?;
+    out.flush().map_err(failed)
+}
+
+fn check_header(seed: &str, count: &str) -> Result<(), String> {
+    let mut answers = BufReader::new(io::stdin().lock());
+    print!(
+        "{}",
+        header::check(number(seed)?, number(count)?, &mut answers)?
+    );
+    Ok(())
+}
+
+fn names() -> Result<(), String> {
+    print!("{}", header::names());
+    Ok(())
+}
+
 fn beyond(seed: &str, count: &str) -> Result<(), String> {
     print!("{}", beyond::beyond(number(seed)?, number(count)?)?);
     Ok(())
@@ -131,6 +162,11 @@ fn examples(folder: &str) -> Result<(), String> {
 
 fn lines() -> Result<(), String> {
     print!("{}", text::lines(&input()?));
+    Ok(())
+}
+
+fn shown() -> Result<(), String> {
+    print!("{}", text::shown(&input()?));
     Ok(())
 }
 

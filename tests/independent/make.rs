@@ -4,6 +4,7 @@
 //! Maker            a book that grows claim by claim
 //! small_book       one to four claims, with small or with edge curves
 //! many_claims      up to 256 claims over a few curves
+//! full_of          256 claims with given codes
 //! large_book       a horizon of 4,095 to 4,097
 //! crossing_book    a crossing N that decides whether the horizon is above 4,096
 //! ranks_book       a horizon of 4,096 or 4,097 by ranks, with different rates
@@ -11,9 +12,10 @@
 //! one_claim        a book of one small claim of a given kind
 //! steep_triple     f, g and their convolution, with T+T'+2*2,021 as the horizon
 
-use crate::book::{Book, Curve, MOST_CLAIMS, MOST_CURVES, MOST_LISTED, MOST_UNITS, MOST_X};
+use crate::book::{Book, Claim, Curve};
+use crate::book::{MOST_CLAIMS, MOST_CURVES, MOST_LISTED, MOST_UNITS, MOST_X};
 use crate::dice::Dice;
-use crate::law::{bound_break, due, gcd, horizon, lcm, rank, sides, table, MOST_HORIZON};
+use crate::law::{bound_break, due, gcd, horizon, lcm, rank, sides, table, verdict, MOST_HORIZON};
 
 pub struct Maker<'a> {
     pub dice: &'a mut Dice,
@@ -72,6 +74,23 @@ pub fn many_claims(dice: &mut Dice) -> Book {
         }
         let book = maker.finish();
         if cost(&book) <= 200_000 {
+            return book;
+        }
+    }
+}
+
+/// 256 claims with these codes and no other.
+pub fn full_of(dice: &mut Dice, codes: &[u8]) -> Book {
+    loop {
+        let mut book = if codes.contains(&5) {
+            unjudged_book(dice)
+        } else {
+            small_book(dice, false)
+        };
+        let wanted = |claim: &&Claim| codes.contains(&verdict(&book, claim).code());
+        let claims: Vec<Claim> = book.claims.iter().filter(wanted).copied().collect();
+        book.claims = claims.iter().cycle().take(MOST_CLAIMS).copied().collect();
+        if !claims.is_empty() && cost(&book) <= 200_000 {
             return book;
         }
     }
@@ -224,7 +243,7 @@ impl<'a> Maker<'a> {
     }
 }
 
-fn shuffled(dice: &mut Dice, mut book: Book) -> Book {
+pub fn shuffled(dice: &mut Dice, mut book: Book) -> Book {
     for i in (1..book.curves.len()).rev() {
         let j = dice.index(i + 1);
         book.curves.swap(i, j);

@@ -1,6 +1,7 @@
 //! The lines that the program prints for a book, and readable forms for reports.
 
 use crate::book::Refusal;
+use crate::header::record;
 use crate::judge::{decide, Totals};
 use crate::law::Verdict;
 
@@ -28,13 +29,30 @@ fn judged(verdicts: &[(u8, Verdict)]) -> String {
         totals.refuted,
         totals.unjudged
     );
-    let certified = !verdicts.is_empty() && totals.accepted == verdicts.len() as u64;
-    text += if certified {
+    text + certified(verdicts)
+}
+
+fn certified(verdicts: &[(u8, Verdict)]) -> &'static str {
+    let accepted = Totals::of(verdicts).accepted;
+    if !verdicts.is_empty() && accepted == verdicts.len() as u64 {
         "certified yes\n"
     } else {
         "certified no\n"
+    }
+}
+
+/// What the example in the header's comment prints.
+pub fn shown(bytes: &[u8]) -> String {
+    let verdicts = match decide(bytes) {
+        Err(refusal) => return refused(&refusal),
+        Ok(verdicts) => verdicts,
     };
-    text
+    let mut text = String::new();
+    for (k, (_, verdict)) in verdicts.iter().enumerate() {
+        let [code, tick, ..] = record(verdict);
+        text += &format!("claim {k}: code {code}, tick {tick}\n");
+    }
+    text + certified(&verdicts)
 }
 
 pub fn words(verdict: &Verdict) -> String {
