@@ -1,6 +1,6 @@
 -- Document 01's book in full, W8, and the empty input, read by the definitions.
 --
---     w8, w8-contents     its 59 bytes, and what they hold
+--     w8, w8-contents     its 59 bytes, and what they hold; fieldA, fieldB: those of A and of B, ended: of the end
 --     w8-read             it is sound; w8-curves, w8-claim: with A, B and the claim of W8
 --     w8-values           W1, asked of it
 --     w8-told             asked for C, at the largest tick and one above it, of no curve, and of W8 torn in its claim
@@ -26,14 +26,19 @@ use Rattle.book.specs.declared.Asked.the-variants.{Value}
 use Rattle.book.specs.Reading.{Contents, sound, refused, readBook}
 use Rattle.book.specs.Values.{curveNamed, valueAsked, told}
 
+unfoldable pub fieldA : List ℕ
+fieldA = 1 ∷ 0 ∷ 16 ∷ 0 ∷ 1 ∷ 0 ∷ 1 ∷ 0 ∷ 0 ∷ 0 ∷ 1 ∷ 0 ∷ 0 ∷ 0 ∷ 0 ∷ 0 ∷ 0 ∷ 0 ∷ 4 ∷ []
+
+unfoldable pub fieldB : List ℕ
+fieldB = 1 ∷ 0 ∷ 20 ∷ 0 ∷ 2 ∷ 0 ∷ 1 ∷ 0 ∷ 0 ∷ 0 ∷ 2 ∷ 0 ∷ 0 ∷ 0 ∷ 0 ∷ 0 ∷ 0 ∷ 0 ∷ 0 ∷ 0 ∷ 0 ∷ 0 ∷ 0 ∷ []
+
+unfoldable pub ended : List ℕ
+ended = 127 ∷ 0 ∷ 0 ∷ []
+
 -- version; A; B; A's delay on B is exactly 3; end
 unfoldable pub w8 : List ℕ
-w8 =
-    (16 ∷ 0 ∷ 1 ∷ 1 ∷ [])
-    ++ (1 ∷ 0 ∷ 16 ∷ 0 ∷ 1 ∷ 0 ∷ 1 ∷ 0 ∷ 0 ∷ 0 ∷ 1 ∷ 0 ∷ 0 ∷ 0 ∷ 0 ∷ 0 ∷ 0 ∷ 0 ∷ 4 ∷ [])
-    ++ (1 ∷ 0 ∷ 20 ∷ 0 ∷ 2 ∷ 0 ∷ 1 ∷ 0 ∷ 0 ∷ 0 ∷ 2 ∷ 0 ∷ 0 ∷ 0 ∷ 0 ∷ 0 ∷ 0 ∷ 0 ∷ 0 ∷ 0 ∷ 0 ∷ 0 ∷ 0 ∷ [])
-    ++ (2 ∷ 0 ∷ 7 ∷ 5 ∷ 0 ∷ 1 ∷ 0 ∷ 0 ∷ 0 ∷ 3 ∷ [])
-    ++ (127 ∷ 0 ∷ 0 ∷ [])
+unfolding fieldA fieldB ended
+w8 = (16 ∷ 0 ∷ 1 ∷ 1 ∷ []) ++ fieldA ++ fieldB ++ (2 ∷ 0 ∷ 7 ∷ 5 ∷ 0 ∷ 1 ∷ 0 ∷ 0 ∷ 0 ∷ 3 ∷ []) ++ ended
 
 unfoldable pub w8-contents : Contents
 w8-contents = record { version = 1; curves = 4 ∷ 23 ∷ []; claims = 46 ∷ [] }

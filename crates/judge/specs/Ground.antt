@@ -17,7 +17,7 @@ use Rattle.curve.specs.Filled.{listOf}
 use Rattle.content.specs.Layout.{kindIn}
 use Rattle.content.specs.Refusals.{numberOf}
 use Rattle.field.specs.Fields.{tagBy, contentAt}
-use Rattle.book.specs.Ground.{w8}
+use Rattle.book.specs.Ground.{w8, fieldA, fieldB, ended}
 use Rattle.numbers.specs.Numbers.{numberAt}
 use Rattle.judge.specs.Answer.{codeIn}
 use Rattle.judge.specs.Run.{answerOf, bufferOf}
@@ -29,15 +29,6 @@ begun rest = 16 ∷ 0 ∷ 1 ∷ 1 ∷ rest
 -- a curve of rank 0 and period d that is 0 throughout: 11 + 4*d bytes
 zeros : ℕ → List ℕ
 zeros d = 1 ∷ (8 + 4 * d) / 256 ∷ (8 + 4 * d) % 256 ∷ 0 ∷ 0 ∷ 0 ∷ d ∷ replicate (4 + 4 * d) 0
-
-fieldA : List ℕ
-fieldA = 1 ∷ 0 ∷ 16 ∷ 0 ∷ 1 ∷ 0 ∷ 1 ∷ 0 ∷ 0 ∷ 0 ∷ 1 ∷ 0 ∷ 0 ∷ 0 ∷ 0 ∷ 0 ∷ 0 ∷ 0 ∷ 4 ∷ []
-
-fieldB : List ℕ
-fieldB = 1 ∷ 0 ∷ 20 ∷ 0 ∷ 2 ∷ 0 ∷ 1 ∷ 0 ∷ 0 ∷ 0 ∷ 2 ∷ 0 ∷ 0 ∷ 0 ∷ 0 ∷ 0 ∷ 0 ∷ 0 ∷ 0 ∷ 0 ∷ 0 ∷ 0 ∷ 0 ∷ []
-
-ended : List ℕ
-ended = 127 ∷ 0 ∷ 0 ∷ []
 
 -- "A conv B", claimed with an increment of c: W4 has 1, W5 has 2
 unfoldable pub convolved : ℕ → List ℕ
