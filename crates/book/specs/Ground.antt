@@ -67,7 +67,7 @@ w8-values = (refl, refl)
 -- 46
 pub w8-told : (told (valueAsked w8 0 2_000_000_000) ≡ record { refusal = 0; value = 2_000_000_003 })
     × (told (valueAsked w8 0 2_000_000_001) ≡ record { refusal = 12; value = 0 })
-    × (told (valueAsked w8 2 0) ≡ record { refusal = 11; value = 0 })
+    × (told (valueAsked w8 2 2_000_000_001) ≡ record { refusal = 11; value = 0 })
     × (told (valueAsked (take 50 w8) 0 0) ≡ record { refusal = 1 + 2 ^ 8 * 46; value = 0 })
 unfolding valueAsked w8 tagBy kindBy numberAt listOf numberOf
 w8-told = (refl, refl, refl, refl)

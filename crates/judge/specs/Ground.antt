@@ -1,6 +1,7 @@
 -- Document 01's numbers, from a book's bytes to the answer and the verdict buffer, computed. A refusal's number, the
--- power of 2 that its place or a total has in the answer, and the order of a record's numbers each stand in one
--- definition, and read back by another they would agree with it whatever they are: so each has a row here.
+-- power of 2 that its place or a total has in the answer, the order of a record's numbers and that of two tests each
+-- stand in one definition, and a law that reads them back or is stated of them would agree whatever they are: so each
+-- has a row here.
 --
 --     table, ground     a book and how many bytes are lent, and the due answer; the test: every answer is the due one
 --     inspected-w8      W8 is accepted, and its record is written; short-w8: with a byte too few for it, it is refused
@@ -11,7 +12,7 @@ use Prim.Native.Nat.{ℕ, _+_, _*_, _/_, _%_, _^_}
 use mathlib.Core.Path.{_≡_, refl}
 use mathlib.Core.List.{List, [], _∷_, _++_, map}
 use mathlib.Core.Option.{some}
-use lib.ListN.{replicate}
+use lib.ListN.{replicate, take}
 use Rattle.minplus.specs.Claim.{kindBy, result, convolution}
 use Rattle.curve.specs.Filled.{listOf}
 use Rattle.content.specs.Layout.{kindIn}
@@ -96,6 +97,28 @@ table =
     ∷ answers mixed 125 14
     -- 15: one byte over 32,768
     ∷ answers (replicate 32_769 16) 0 15
+    -- two faults in one field: the one that is looked for first counts. 1 before 2, 2 before 1
+    ∷ answers (begun (3 ∷ 0 ∷ [])) 0 (1 + 2 ^ 8 * 4)
+    ∷ answers (begun (3 ∷ 0 ∷ 9 ∷ [])) 0 (2 + 2 ^ 8 * 4)
+    -- 3 before 4: after a claim a 17th curve; 3 before 1; 4 before 1
+    ∷ answers (begun (sixteen ++ (2 ∷ 0 ∷ 4 ∷ 1 ∷ 0 ∷ 0 ∷ 0 ∷ []) ++ zeros 1)) 0 (3 + 2 ^ 8 * 251)
+    ∷ answers (begun (16 ∷ 0 ∷ 9 ∷ [])) 0 (3 + 2 ^ 8 * 4)
+    ∷ answers (begun (sixteen ++ (1 ∷ 0 ∷ 12 ∷ []))) 0 (4 + 2 ^ 8 * 244)
+    -- 1 before what the content is refused for
+    ∷ answers (16 ∷ 0 ∷ 2 ∷ 9 ∷ []) 0 1
+    ∷ answers (begun (1 ∷ 0 ∷ 7 ∷ [])) 0 (1 + 2 ^ 8 * 4)
+    ∷ answers (begun (zeros 1 ++ (2 ∷ 0 ∷ 4 ∷ 9 ∷ []))) 0 (1 + 2 ^ 8 * 19)
+    ∷ answers (begun (127 ∷ 0 ∷ 1 ∷ [])) 0 (1 + 2 ^ 8 * 4)
+    -- 6 for a length under 8 before 7, 7 before 6 for another length, that before 8, 8 before 9
+    ∷ answers (begun (1 ∷ 0 ∷ 4 ∷ replicate 4 0)) 0 (6 + 2 ^ 8 * 4)
+    ∷ answers (begun (1 ∷ 0 ∷ 12 ∷ replicate 12 0)) 0 (7 + 2 ^ 8 * 4)
+    ∷ answers (begun (1 ∷ 0 ∷ 16 ∷ 0 ∷ 0 ∷ 0 ∷ 1 ∷ 0 ∷ 15 ∷ 66 ∷ 65 ∷ replicate 8 0)) 0 (6 + 2 ^ 8 * 4)
+    ∷ answers (begun (1 ∷ 0 ∷ 16 ∷ 0 ∷ 0 ∷ 0 ∷ 2 ∷ 0 ∷ 0 ∷ 0 ∷ 0 ∷ 0 ∷ 15 ∷ 66 ∷ 65 ∷ replicate 4 0)) 0 (8 + 2 ^ 8 * 4)
+    -- 10 before 11, 11 before 12
+    ∷ answers (begun (zeros 1 ++ (2 ∷ 0 ∷ 5 ∷ 1 ∷ 0 ∷ 0 ∷ 9 ∷ 0 ∷ []))) 0 (10 + 2 ^ 8 * 19)
+    ∷ answers (begun (zeros 1 ++ (2 ∷ 0 ∷ 7 ∷ 4 ∷ 1 ∷ 0 ∷ 59 ∷ 154 ∷ 202 ∷ 1 ∷ []))) 0 (11 + 2 ^ 8 * 19)
+    -- and a book's own refusal before 14
+    ∷ answers (take 50 w8) 0 (1 + 2 ^ 8 * 46)
     -- the totals: 1 accepted, 2 refuted, 3 not judged
     ∷ answers mixed 126 (2 ^ 24 * 1 + 2 ^ 36 * 2 + 2 ^ 48 * 3)
     ∷ []
