@@ -10,7 +10,7 @@
 --     inspected-mixed   one claim accepted, two refuted and three not judged
 use Prim.Native.Nat.{ℕ, _+_, _*_, _/_, _%_, _^_}
 use mathlib.Core.Path.{_≡_, refl}
-use mathlib.Core.List.{List, [], _∷_, _++_, map}
+use mathlib.Core.List.{List, [], _∷_, _++_, flatMap, map}
 use mathlib.Core.Option.{some}
 use lib.ListN.{replicate, take}
 use Rattle.minplus.specs.Claim.{kindBy, result, convolution}
@@ -60,7 +60,7 @@ unfolding zeros
 sixteen = let four = zeros 1 ++ zeros 1 ++ zeros 1 ++ zeros 1 in four ++ four ++ four ++ four
 
 table : List Row
-unfolding answers begun zeros ended sixteen w8 mixed
+unfolding answers begun zeros ended sixteen w8 mixed flatMap
 table =
     -- each refusal number, with the place of the field. 1: fewer than 3 bytes are left; content runs past the book
     answers (begun (1 ∷ 0 ∷ [])) 0 (1 + 2 ^ 8 * 4)
@@ -68,21 +68,31 @@ table =
     -- 2, also at a place that needs two bytes
     ∷ answers (begun (3 ∷ 0 ∷ 0 ∷ [])) 0 (2 + 2 ^ 8 * 4)
     ∷ answers (begun (zeros 80 ++ (3 ∷ 0 ∷ 0 ∷ []))) 0 (2 + 2 ^ 8 * 335)
-    -- 3: a second version
+    -- 3: a second version, and no version before a curve, a claim or the end
     ∷ answers (begun (begun ended)) 0 (3 + 2 ^ 8 * 4)
+    ∷ answers (zeros 1) 0 3
+    ∷ answers (2 ∷ 0 ∷ 4 ∷ 1 ∷ 0 ∷ 0 ∷ 0 ∷ []) 0 3
+    ∷ answers ended 0 3
     -- 4: a 17th curve; with 16 the book is sound
     ∷ answers (begun (sixteen ++ zeros 1 ++ ended)) 0 (4 + 2 ^ 8 * 244)
     ∷ answers (begun (sixteen ++ ended)) 0 0
-    -- 5: version 2; and one whose length is not 1, in the longest book that is looked at
+    -- 5: version 2; and one whose length is not 1, the second time in the longest book that is looked at
     ∷ answers (16 ∷ 0 ∷ 1 ∷ 2 ∷ ended) 0 5
+    ∷ answers (16 ∷ 0 ∷ 2 ∷ 1 ∷ 0 ∷ ended) 0 5
     ∷ answers (replicate 32_768 16) 0 5
     -- 6: length under 8; length that is not 8+4*(T+d)
     ∷ answers (begun (1 ∷ 0 ∷ 7 ∷ replicate 7 0)) 0 (6 + 2 ^ 8 * 4)
     ∷ answers (begun (1 ∷ 0 ∷ 12 ∷ 0 ∷ 1 ∷ 0 ∷ 1 ∷ replicate 8 0)) 0 (6 + 2 ^ 8 * 4)
-    -- 7: d = 0
+    -- 7: d = 0; T = 256 and d = 1
     ∷ answers (begun (1 ∷ 0 ∷ 8 ∷ replicate 8 0)) 0 (7 + 2 ^ 8 * 4)
-    -- 8: c is 1,000,001
+    ∷ answers (begun (1 ∷ 0 ∷ 8 ∷ 1 ∷ 0 ∷ 0 ∷ 1 ∷ replicate 4 0)) 0 (7 + 2 ^ 8 * 4)
+    -- a curve of 256 values of 1,000,000, with that c too, is sound
+    ∷ answers (begun (1 ∷ 4 ∷ 8 ∷ 0 ∷ 0 ∷ 1 ∷ 0 ∷ flatMap {A = ℕ} (λ _. 0 ∷ 15 ∷ 66 ∷ 64 ∷ []) (replicate 257 0) ++ ended)) 0 0
+    -- 8: c, or a value, is 1,000,001 or 2^24
     ∷ answers (begun (1 ∷ 0 ∷ 12 ∷ 0 ∷ 0 ∷ 0 ∷ 1 ∷ 0 ∷ 15 ∷ 66 ∷ 65 ∷ replicate 4 0)) 0 (8 + 2 ^ 8 * 4)
+    ∷ answers (begun (1 ∷ 0 ∷ 12 ∷ 0 ∷ 0 ∷ 0 ∷ 1 ∷ 1 ∷ replicate 7 0)) 0 (8 + 2 ^ 8 * 4)
+    ∷ answers (begun (1 ∷ 0 ∷ 12 ∷ 0 ∷ 0 ∷ 0 ∷ 1 ∷ 0 ∷ 0 ∷ 0 ∷ 0 ∷ 0 ∷ 15 ∷ 66 ∷ 65 ∷ [])) 0 (8 + 2 ^ 8 * 4)
+    ∷ answers (begun (1 ∷ 0 ∷ 12 ∷ 0 ∷ 0 ∷ 0 ∷ 1 ∷ 0 ∷ 0 ∷ 0 ∷ 0 ∷ 1 ∷ 0 ∷ 0 ∷ 0 ∷ [])) 0 (8 + 2 ^ 8 * 4)
     -- 9: 1, then 0
     ∷ answers (begun (1 ∷ 0 ∷ 16 ∷ 0 ∷ 0 ∷ 0 ∷ 2 ∷ 0 ∷ 0 ∷ 0 ∷ 0 ∷ 0 ∷ 0 ∷ 0 ∷ 1 ∷ replicate 4 0)) 0 (9 + 2 ^ 8 * 4)
     -- 10: empty
@@ -91,8 +101,9 @@ table =
     ∷ answers (begun (zeros 1 ++ (2 ∷ 0 ∷ 4 ∷ 1 ∷ 0 ∷ 0 ∷ 1 ∷ []))) 0 (11 + 2 ^ 8 * 19)
     -- 12: X is 1,000,000,001
     ∷ answers (begun (zeros 1 ++ (2 ∷ 0 ∷ 7 ∷ 4 ∷ 0 ∷ 0 ∷ 59 ∷ 154 ∷ 202 ∷ 1 ∷ []))) 0 (12 + 2 ^ 8 * 19)
-    -- 13: a byte follows
+    -- 13: a byte follows; length that is not 0
     ∷ answers (begun (ended ++ (0 ∷ []))) 0 (13 + 2 ^ 8 * 4)
+    ∷ answers (begun (127 ∷ 0 ∷ 1 ∷ 0 ∷ [])) 0 (13 + 2 ^ 8 * 4)
     -- 14: a byte too few for six records of 21
     ∷ answers mixed 125 14
     -- 15: one byte over 32,768
