@@ -97,8 +97,11 @@ table =
     ∷ answers (begun (1 ∷ 0 ∷ 16 ∷ 0 ∷ 0 ∷ 0 ∷ 2 ∷ 0 ∷ 0 ∷ 0 ∷ 0 ∷ 0 ∷ 0 ∷ 0 ∷ 1 ∷ replicate 4 0)) 0 (9 + 2 ^ 8 * 4)
     -- 10: empty
     ∷ answers (begun (zeros 1 ++ (2 ∷ 0 ∷ 0 ∷ []))) 0 (10 + 2 ^ 8 * 19)
-    -- 11: h is 1, and there is one curve
+    -- 11: there is one curve, and left, right or h is 1; right of a claim with an X
+    ∷ answers (begun (zeros 1 ++ (2 ∷ 0 ∷ 4 ∷ 1 ∷ 1 ∷ 0 ∷ 0 ∷ []))) 0 (11 + 2 ^ 8 * 19)
+    ∷ answers (begun (zeros 1 ++ (2 ∷ 0 ∷ 4 ∷ 1 ∷ 0 ∷ 1 ∷ 0 ∷ []))) 0 (11 + 2 ^ 8 * 19)
     ∷ answers (begun (zeros 1 ++ (2 ∷ 0 ∷ 4 ∷ 1 ∷ 0 ∷ 0 ∷ 1 ∷ []))) 0 (11 + 2 ^ 8 * 19)
+    ∷ answers (begun (zeros 1 ++ (2 ∷ 0 ∷ 7 ∷ 4 ∷ 0 ∷ 1 ∷ replicate 4 0))) 0 (11 + 2 ^ 8 * 19)
     -- 12: X is 1,000,000,001
     ∷ answers (begun (zeros 1 ++ (2 ∷ 0 ∷ 7 ∷ 4 ∷ 0 ∷ 0 ∷ 59 ∷ 154 ∷ 202 ∷ 1 ∷ []))) 0 (12 + 2 ^ 8 * 19)
     -- 13: a byte follows; length that is not 0
