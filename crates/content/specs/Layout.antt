@@ -5,19 +5,18 @@
 --     curveBytes, valuesBytes         the same, written
 --     Statement, claimIn              "02: kind, left, right (1 each), then h (1) for kinds 1 to 3 or X (4) for 4 to
 --                                     7": read from a content
---     thirdWidth, claimLength         (at most 4: third-small)
+--     thirdWidth, claimLength         (at most 4: third-small; widthOf: by the kind, third-in)
 --     claimBytes                      the same, written
---     kindIn, idIn                    a claim's kind and the ids in it (third-id)
+--     kindIn, idIn                    a claim's kind and the ids in it
 use Prim.Native.Nat.{ℕ, _+_, _*_, _≤_, _<_}
-use mathlib.Core.Path.{_≡_, ap}
+use mathlib.Core.Path.{_≡_, refl, ap, _∙_}
 use mathlib.Core.Bool.{Bool, true, false}
 use mathlib.Core.List.{List, _++_, flatMap}
 use mathlib.Core.Option.{Option, some}
 use native.Mathlib.Omega.{arith}
 use lib.Dec.{ltb}
-use borrow.Author.Tests.{lt-ltb}
 use Rattle.minplus.specs.Curve.{Curve}
-use Rattle.minplus.specs.Claim.{Operation, sum, minimum, convolution, Kind, result, kindNumber, kindBy, kind-by}
+use Rattle.minplus.specs.Claim.{Kind, atMost, backlog, bound, convolution, delay, exactly, kind-by, kindBy, kindNumber, minimum, result, sum}
 use Rattle.curve.specs.Filled.{listOf}
 use Rattle.numbers.specs.Numbers.{numberAt}
 use Rattle.numbers.specs.Put.{bytesOf}
@@ -72,6 +71,11 @@ pub record Statement : Type 0 where
 unfoldable pub thirdWidth : ℕ → ℕ
 thirdWidth kind = elim (ltb kind 4) [ true ↦ 1 | false ↦ 4 ]
 
+-- the same by the kind itself (third-in)
+abbrev pub widthOf : Kind → ℕ
+widthOf (result o) = 1
+widthOf (bound δ t) = 4
+
 -- the ids: left is the first, right the second, h the third
 abbrev pub idIn : List ℕ → ℕ → ℕ
 idIn content n = numberAt 1 content n
@@ -104,12 +108,16 @@ third-small kind = go (ltb kind 4)
     go true = omega arith
     go false = omega arith
 
--- of kinds 1 to 3 the third is an id, as left and right are
-pub third-id : (content : List ℕ) (o : Operation) → kindIn content ≡ some (result o) → claimIn content .third ≡ idIn content 3
+-- of kinds 1 to 3 the third is an id, as left and right are; of 4 to 7 it has four bytes
+pub third-in : (content : List ℕ) (κ : Kind) → kindIn content ≡ some κ → claimIn content .third ≡ numberAt (widthOf κ) content 3
 unfolding thirdWidth kindNumber
-third-id content o is = ap (λ (b : Bool). numberAt (elim b as (λ _. ℕ) [ true ↦ 1 | false ↦ 4 ]) content 3) (lt-ltb (claimIn content .kind) 4 (small o (kind-by (claimIn content .kind) (result o) .0 is)))
+third-in content κ is = ap (λ (w : ℕ). numberAt w content 3) (ap thirdWidth (kind-by (claimIn content .kind) κ .0 is) ∙ wide κ)
   where
-    small : (o : Operation) → claimIn content .kind ≡ kindNumber (result o) → claimIn content .kind < 4
-    small sum e = omega (arith, e)
-    small minimum e = omega (arith, e)
-    small convolution e = omega (arith, e)
+    wide : (κ : Kind) → thirdWidth (kindNumber κ) ≡ widthOf κ
+    wide (result sum) = refl
+    wide (result minimum) = refl
+    wide (result convolution) = refl
+    wide (bound delay atMost) = refl
+    wide (bound delay exactly) = refl
+    wide (bound backlog atMost) = refl
+    wide (bound backlog exactly) = refl

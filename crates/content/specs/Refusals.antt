@@ -2,7 +2,7 @@
 --
 --     numberOf         the number of each refusal
 --     on               a test that refuses, before what is tried after it
---     noSpan, limitFault     what is refused of a curve by its numbers, over valuesFit and valuesRise
+--     noSpan, limitFault     what is refused of a curve by its numbers, over valuesFit, valuesRise and seamHolds
 --     listedFault      a curve and a list of values, as the writer gets them; curveFault: a content, as the reader does
 --     statementFault   a claim by its numbers, by kindFault over noneNamed, lastId and farX; claimFault: a content
 --     statedOf         a claim as a value: claimedOf, its claimed curve
@@ -17,7 +17,7 @@ use mathlib.Core.Option.{Option, none, some}
 use lib.ListN.{length, getD}
 use lib.Dec.{leb, ltb, eqb}
 use borrow.Author.Tests.{eq-eqb, ne-eqb}
-use Rattle.minplus.specs.Curve.{Curve, count, maxListed, maxUnits}
+use Rattle.minplus.specs.Curve.{Curve, count, maxListed, maxUnits, seamHolds}
 use Rattle.minplus.specs.Claim.{Kind, result, bound, kindBy, maxX}
 use Rattle.minplus.specs.Search.{allBelow}
 use Rattle.curve.specs.Filled.{listOf}
@@ -66,12 +66,13 @@ unfoldable pub valuesRise : List ℕ → Bool
 unfolding allBelow
 valuesRise values = allBelow (λ n. leb (getD values n 0) (getD values (suc n) 0)) (length values - 1)
 
--- "8 c or a value over 1,000,000; 9 values fall"
-unfoldable pub limitFault : ℕ → List ℕ → Checked
+-- "8 c or a value over 1,000,000; 9 values fall". Document 02, A2: "Refusal 9 must also be given when f(T)+c is below
+-- f(T+d-1)"
+unfoldable pub limitFault : Curve → Checked
 unfolding valuesFit valuesRise
-limitFault increment values =
-    on (ltb maxUnits increment || not (valuesFit values)) TooManyUnits
-    (on (not (valuesRise values)) CurveFalls
+limitFault f =
+    on (ltb maxUnits (f .increment) || not (valuesFit (f .listed))) TooManyUnits
+    (on (not (valuesRise (f .listed)) || not (seamHolds f)) CurveFalls
     Sound)
 
 -- written: "7, 6 (the list isn't T+d values), 8, 9 for a curve"
@@ -80,7 +81,7 @@ unfolding noSpan limitFault
 listedFault f =
     on (noSpan (f .rank) (f .period)) CurvePeriod
     (on (not (eqb (length (f .listed)) (count f))) CurveLength
-    (limitFault (f .increment) (f .listed)))
+    (limitFault f))
 
 -- read: "6 length under 8; 7 d = 0 or T+d > 256; 6 length isn't 8+4*(T+d); 8 c or a value over 1,000,000; 9 values
 -- fall"
@@ -90,7 +91,7 @@ curveFault content =
     on (ltb (length content) curveHead) CurveLength
     (on (noSpan (rankIn content) (periodIn content)) CurvePeriod
     (on (not (eqb (length content) (curveHead + 4 * countIn content))) CurveLength
-    (limitFault (curveIn content .increment) (curveIn content .listed))))
+    (limitFault (curveIn content))))
 
 -- ---- claim
 

@@ -20,7 +20,7 @@ use lib.Dec.{leb, ltb, eqb}
 use borrow.Author.Tests.{leb-true, leb-false, ltb-false, eqb-false, eqb-true, not-false, le-leb, lt-leb, le-ltb, ne-eqb, eq-eqb}
 use Rattle.minplus.specs.Search.{all-below}
 use Rattle.minplus.specs.Claim.{Kind, result, bound, kindBy, sum, minimum, convolution, delay, backlog, atMost, exactly, maxX}
-use Rattle.minplus.specs.Curve.{Curve, WellFormed, count, listedAt, maxListed, maxUnits}
+use Rattle.minplus.specs.Curve.{Curve, WellFormed, count, listedAt, maxListed, maxUnits, seamHolds}
 use Rattle.curve.specs.Kinds.{claimWith, xOf}
 use Rattle.curve.specs.Filled.{length-listOf}
 use Rattle.content.specs.declared.Refusal.the-variants.{CurveLength, CurvePeriod, TooManyUnits, CurveFalls, WrongClaim, NoSuchCurve, TooLarge}
@@ -47,22 +47,26 @@ module _ (f : Curve) where
   rise n = leb (listedAt f n) (listedAt f (suc n))
 
   -- what the tests tell, once the list is T+d values
-  well : noSpan (f .rank) (f .period) ≡ false → length (f .listed) ≡ count f → limitFault (f .increment) (f .listed) ≡ Sound → WellFormed f
+  well : noSpan (f .rank) (f .period) ≡ false → length (f .listed) ≡ count f → limitFault f ≡ Sound → WellFormed f
   unfolding limitFault
   well span whole limits =
       let spans = span-fits (f .rank) (f .period) span in
       let t₁ = on-sound (ltb maxUnits (f .increment) || not (valuesFit (f .listed))) TooManyUnits _ limits in
       let small = or-false (ltb maxUnits (f .increment)) (not (valuesFit (f .listed))) (t₁ .0) in
-      let t₂ = on-sound (not (valuesRise (f .listed))) CurveFalls _ (t₁ .1) in
+      let t₂ = on-sound (not (valuesRise (f .listed)) || not (seamHolds f)) CurveFalls _ (t₁ .1) in
+      let rising = or-false (not (valuesRise (f .listed))) (not (seamHolds f)) (t₂ .0) in
       let fits = all-below fit (length (f .listed)) .0 (not-false _ (small .1)) in
-      let rises = all-below rise (length (f .listed) - 1) .0 (not-false _ (t₂ .0)) in
+      let rises = all-below rise (length (f .listed) - 1) .0 (not-false _ (rising .0)) in
       record {
         period-positive = spans .0;
         count-fits = spans .1;
         listed-whole = whole;
         increment-fits = ltb-false _ _ (small .0);
         values-fit = λ n lt. leb-true _ _ (fits n (omega (arith, whole, lt)));
-        never-falls = λ n lt. leb-true _ _ (rises n (omega (arith, whole, lt)));
+        rises = record {
+          listed-rise = λ n lt. leb-true _ _ (rises n (omega (arith, whole, lt)));
+          seam-holds = leb-true _ _ (not-false _ (rising .1));
+        };
       }
 
   -- and the other way round
@@ -71,12 +75,12 @@ module _ (f : Curve) where
     unfolding noSpan
     well-span = rw (ne-eqb (f .period) 0 (λ e. omega (arith, e, w .period-positive)), le-ltb maxListed (count f) (w .count-fits))
 
-    pub well-limits : limitFault (f .increment) (f .listed) ≡ Sound
+    pub well-limits : limitFault f ≡ Sound
     unfolding limitFault
     well-limits =
         let fits : valuesFit (f .listed) ≡ true = all-below fit (length (f .listed)) .1 (λ n lt. le-leb _ _ (w .values-fit n (omega (arith, w .listed-whole, lt)))) in
-        let rises : valuesRise (f .listed) ≡ true = all-below rise (length (f .listed) - 1) .1 (λ n lt. le-leb _ _ (w .never-falls n (omega (arith, w .listed-whole, lt)))) in
-        rw (le-ltb maxUnits (f .increment) (w .increment-fits), fits, rises)
+        let rises : valuesRise (f .listed) ≡ true = all-below rise (length (f .listed) - 1) .1 (λ n lt. le-leb _ _ (w .rises .listed-rise n (omega (arith, w .listed-whole, lt)))) in
+        rw (le-ltb maxUnits (f .increment) (w .increment-fits), fits, rises, le-leb _ _ (w .rises .seam-holds))
 
 pub listed-well : (f : Curve) → (listedFault f ≡ Sound) ↔ WellFormed f
 unfolding listedFault

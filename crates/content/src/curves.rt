@@ -1,6 +1,7 @@
 // A curve's content: T (2), d (2), c (4), then T+d values (4 each).
 ghost use mathlib.Core.Path.{_≡_};
-ghost use Prim.Native.Nat.{_<_};
+ghost use Prim.Native.Nat.{_+_, _<_};
+ghost use lib.ListN.{length};
 ghost use Rattle.minplus.specs.Curve.{maxListed};
 ghost use Rattle.curve.specs.Held.{holding};
 ghost use Rattle.content.specs.Layout.{valueIn, curveIn};
@@ -9,6 +10,7 @@ use crate::Checked;
 use crate::Refusal;
 use curve::Curve;
 use curve::Ticks;
+use curve::values::seam_holds;
 use numbers::number2;
 use numbers::number4;
 
@@ -55,9 +57,10 @@ fn values_rise(values: &[u32]) -> bool
     true
 }
 
-// What is refused of an increment and of values, however many.
-fn limit_fault(increment: u64, values: &[u32]) -> Checked
-    ensures { λ r. ⌜ r ≡ limitFault increment (now (values .entry)) ⌝ }
+// What is refused of an increment of any size and of T+d values.
+fn limit_fault(rank: u32, period: u32, increment: u64, values: &[u32]) -> Checked
+    requires { ⌜ length (now values) ≡ rank + period ⌝ }
+    ensures { λ r. ⌜ r ≡ limitFault (record { rank = rank; period = period; increment = increment; listed = now (values .entry) }) ⌝ }
 {
     if (Curve::MAX_UNITS as u64) < increment {
         return Checked::Refused(Refusal::TooManyUnits);
@@ -66,6 +69,9 @@ fn limit_fault(increment: u64, values: &[u32]) -> Checked
         return Checked::Refused(Refusal::TooManyUnits);
     }
     if !values_rise(values) {
+        return Checked::Refused(Refusal::CurveFalls);
+    }
+    if !seam_holds(Ticks(rank), Ticks(period), increment as u32, values) {
         return Checked::Refused(Refusal::CurveFalls);
     }
     Checked::Sound
@@ -81,7 +87,7 @@ pub fn listed_fault(rank: u64, period: u64, increment: u64, values: &[u32]) -> C
     if values.len() != (rank + period) as usize {
         return Checked::Refused(Refusal::CurveLength);
     }
-    limit_fault(increment, values)
+    limit_fault(rank as u32, period as u32, increment, values)
 }
 
 fn listed_in(content: &[u8], n: usize) -> u32
@@ -128,5 +134,5 @@ pub fn curve_fault(content: &[u8]) -> Checked
     }
     let f = curve_in(content);
     let listed = f.listed;
-    limit_fault(f.increment as u64, &listed[..count])
+    limit_fault(rank, period, f.increment as u64, &listed[..count])
 }

@@ -7,8 +7,9 @@
 --     Listed                         document 01's limits on the listed values, for a loop that looks at one more each
 --                                    turn
 --     listed-none, listed-more       before the first turn, and after one more
---     held-listed, listed-held       of the working array, exactly the values that count have to keep them
-use Prim.Native.Nat.{ℕ, zero, suc, _+_, _≤_, _<_, min}
+--     held-listed, listed-held       of the working array, exactly the values that count have to keep them; the seam is
+--                                    asked beside them
+use Prim.Native.Nat.{ℕ, zero, suc, _+_, _-_, _≤_, _<_, min}
 use mathlib.Core.Path.{_≡_, sym, ap, _∙_}
 use mathlib.Core.List.{List, _∷_}
 use native.Mathlib.Omega.{arith}
@@ -84,15 +85,19 @@ module _ (rank period increment : ℕ) (l : List ℕ) where
     where
       rises : (n : ℕ) → n < rank + period → getD (0 ∷ l) n 0 ≤ getD l n 0
       rises zero lt = omega arith
-      rises (suc n) lt = rw (← taken n (omega arith), ← taken (suc n) lt) (w .never-falls n (omega arith))
+      rises (suc n) lt = rw (← taken n (omega arith), ← taken (suc n) lt) (w .rises .listed-rise n (omega arith))
 
   pub listed-held : 1 ≤ period → rank + period ≤ C.maxListed → C.maxListed ≤ length l → increment ≤ C.maxUnits → Listed l (rank + period)
+      → getD (take (rank + period) l) (rank + period - 1) 0 ≤ getD (take (rank + period) l) rank 0 + increment
       → C.WellFormed (heldOf rank period increment l)
-  listed-held positive fits room small listed = record {
+  listed-held positive fits room small listed seam = record {
     period-positive = positive;
     count-fits = fits;
     listed-whole = length-take-le (rank + period) l (omega arith);
     increment-fits = small;
     values-fit = λ n lt. rw (taken n lt) (listed .fit n lt);
-    never-falls = λ n lt. rw (taken n (omega arith), taken (suc n) (omega arith)) (listed .rise (suc n) (omega arith));
+    rises = record {
+      listed-rise = λ n lt. rw (taken n (omega arith), taken (suc n) (omega arith)) (listed .rise (suc n) (omega arith));
+      seam-holds = seam;
+    };
   }

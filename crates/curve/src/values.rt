@@ -1,7 +1,7 @@
-// A curve's value at a tick, and its first values in a lent table.
+// A curve's value at a tick, its first values in a lent table, and whether it falls where one period meets the next.
 ghost use mathlib.Core.Path.{_≡_};
 ghost use Prim.Native.Nat.{_<_, _^_, min};
-ghost use Rattle.minplus.specs.Curve.{value};
+ghost use Rattle.minplus.specs.Curve.{value, seamHolds};
 ghost use lib.ListN.{getD, take};
 ghost use Rattle.curve.specs.Held.{heldOf};
 ghost use Rattle.curve.specs.Table.{tableOver, largest};
@@ -39,6 +39,19 @@ pub fn value_at(rank: Ticks, period: Ticks, increment: u32, listed: &[u32], tick
     let since = n - t;
     let listed = listed_at(listed, t + d, t + since % d);
     Units(listed + since / d * increment as u64)
+}
+
+// f(T)+c, the first value of the next period, is not below f(T+d-1). The values before it are not looked at.
+pub fn seam_holds(rank: Ticks, period: Ticks, increment: u32, listed: &[u32]) -> bool
+    ensures { λ r. ⌜ r ≡ seamHolds (heldOf (rank .0) (period .0) increment (now (listed .entry))) ⌝ }
+{
+    let t = rank.0 as u64;
+    let count = t + period.0 as u64;
+    if count == 0 {
+        return true;
+    }
+    let last = listed_at(listed, count, count - 1);
+    last <= listed_at(listed, count, t) + increment as u64
 }
 
 // A value that needs more than 32 bits stands as their largest number; no well-formed curve has one up to tick 4,096.

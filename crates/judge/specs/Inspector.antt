@@ -11,6 +11,8 @@
 --     inspected               for any s and b; record-back: record k of the buffer is the record on claim k
 --     IsClaim, claimCurve     claim k and its curves, as the claim's bytes say it (claimContent)
 --     accepted-convolution    for the code 1 of kind 3 spelled out: h(n) is the least f(u)+g(n-u), at every n
+--     accepted-delay          code 1 of kinds 4 and 5 exactly when X bounds the least wait of every tick, and for kind 5
+--                             when X is the horizontal deviation; claimX: X, as the claim's bytes say it
 --     certified-means         a certified book: at least one claim, and each holds at every tick
 --     (Ground.antt has such books: W8 accepted, W8 refused for want of room, a claim of kind 3 accepted in W4)
 use Prim.Native.Nat.{ℕ, zero, suc, _+_, _*_, _≤_, _<_, _^_}
@@ -24,18 +26,19 @@ use lib.ListN.{length, getD, drop, replicate}
 use lib.Dec.{leb, ltb, eqb}
 use borrow.Author.Tests.{ltb-false, leb-true, le-leb, eqb-true, eq-eqb}
 use Rattle.minplus.specs.Search.{both-true}
-use Rattle.minplus.specs.Curve.{Curve, value}
-use Rattle.minplus.specs.Claim.{kindBy, Kind, Claim, Claimed, WellFormedClaim, result, equals, convolution, due}
+use Rattle.minplus.specs.Curve.{Curve, WellFormed, value}
+use Rattle.minplus.specs.Claim.{Claim, Claimed, Kind, Tightness, WellFormedClaim, atMost, bound, bounds, convolution, delay, due, equals, exactly, kindBy, maxX, result}
 use Rattle.minplus.specs.Conv.{conv, conv-below, conv-attained}
 use Rattle.minplus.specs.Horizon.{horizon, maxHorizon}
 use Rattle.minplus.specs.Verdict.{Record, Verdict, accepted, refutedAt, refutedByRate, notLeast, notJudged, recordOf, verdict, leftAt, rightAt, tried}
 use Rattle.minplus.specs.Meaning.{Meaning, Proper, Rule, Loose, Outpaced, well-formed-proper}
 use Rattle.minplus.specs.Exact.{verdict-exact, accepted-exactly, rate-exactly}
+use Rattle.minplus.specs.Delay.{Delayed, delay-means}
 use Rattle.curve.specs.Filled.{listOf}
 use Rattle.content.specs.declared.Refusal.{Refusal}
 use Rattle.content.specs.declared.Refusal.the-variants.{Torn, UnknownTag, OutOfOrder, TooMany, WrongVersion, CurveLength, CurvePeriod, TooManyUnits, CurveFalls, WrongClaim, NoSuchCurve, TooLarge, WrongEnd, NoRoom, BookTooLong}
 use Rattle.content.specs.declared.Stated.{Stated}
-use Rattle.content.specs.Layout.{kindIn, idIn, claimIn, third-id}
+use Rattle.content.specs.Layout.{kindIn, idIn, claimIn, third-in}
 use Rattle.field.specs.Fields.{tagBy, contentAt}
 use Rattle.content.specs.Refusals.{numberOf, statedOf}
 use Rattle.field.specs.Steps.{maxClaims}
@@ -85,6 +88,10 @@ IsClaim s c k claim =
 -- the curve that the n-th byte of a claim's content names: 1 the left, 2 the right, 3 the claimed one
 abbrev pub claimCurve : List ℕ → Contents → ℕ → ℕ → Curve
 claimCurve s c k n = curveNamed s (c .curves) (idIn (claimContent s c k) n)
+
+-- X of kinds 4 to 7, four bytes after the ids
+abbrev pub claimX : List ℕ → Contents → ℕ → ℕ
+claimX s c k = numberAt 4 (claimContent s c k) 3
 
 pub record ClaimJudged (s : List ℕ) (c : Contents) (k : ℕ) (r : Record) : Type 0 where
   pub claim : Claim
@@ -305,6 +312,13 @@ module _ (s b : List ℕ) where
       go (sound c) e (so, room) = inl (is-judged s b c so room)
       go (refused x p) e near = inr (is-refused x p e near)
 
+-- what is judged is what the bytes say of the claim's kind
+claim-of : {s : List ℕ} {c : Contents} {k : ℕ} {r : Record} → (judged : ClaimJudged s c k r) (κ : Kind) → kindIn (claimContent s c k) ≡ some κ
+    → judged .claim ≡ claimOn s (c .curves) (statedOf κ (claimIn (claimContent s c k)))
+claim-of {s} {c} {k} judged κ kind =
+    let is : judged .is-claim .0 ≡ κ = cc (judged .is-claim .1) in
+    judged .is-claim .2 ∙ ap (λ (κ : Kind). claimOn s (c .curves) (statedOf κ (claimIn (claimContent s c k)))) is
+
 -- kind 3, accepted: h(n) is the least f(u)+g(n-u), at every n
 pub accepted-convolution : {s : List ℕ} {c : Contents} {k : ℕ} {r : Record} → ClaimJudged s c k r → kindIn (claimContent s c k) ≡ some (result convolution) → r .code ≡ 1
     → (n : ℕ)
@@ -315,14 +329,47 @@ accepted-convolution {s} {c} {k} {r} judged kind code n =
     let f : Curve = claimCurve s c k 1 in
     let g : Curve = claimCurve s c k 2 in
     let h : Curve = claimCurve s c k 3 in
-    let is : judged .is-claim .0 ≡ result convolution = cc (judged .is-claim .1) in
     let claim : judged .claim ≡ equals convolution f g h =
-    judged .is-claim .2 ∙ ap (λ (κ : Kind). claimOn s (c .curves) (statedOf κ (claimIn (claimContent s c k)))) is
-    ∙ ap (λ (n : ℕ). equals convolution f g (curveNamed s (c .curves) n)) (third-id (claimContent s c k) convolution kind) in
+    claim-of judged (result convolution) kind
+    ∙ ap (λ (n : ℕ). equals convolution f g (curveNamed s (c .curves) n)) (third-in (claimContent s c k) (result convolution) kind) in
     let says : Says (equals convolution f g h) r = subst (λ (x : Claim). Says x r) claim (judged .says) in
     let equal : value h n ≡ conv (value f) (value g) n = says .code-1 .0 code .1 n in
     let least = conv-attained (value f) (value g) n in
     (λ u v e. rw equal (conv-below (value f) (value g) n u v e), (least .0, least .1, least .2, equal ∙ least .3))
+
+-- kinds 4 and 5: the claim, as its bytes say it
+module _ {s : List ℕ} {c : Contents} {k : ℕ} {r : Record} (judged : ClaimJudged s c k r) (t : Tightness) (kind : kindIn (claimContent s c k) ≡ some (bound delay t)) where
+  abbrev f : Curve
+  f = claimCurve s c k 1
+
+  abbrev g : Curve
+  g = claimCurve s c k 2
+
+  abbrev X : ℕ
+  X = claimX s c k
+
+  delay-claim : judged .claim ≡ bounds delay t f g X
+  delay-claim =
+      claim-of judged (bound delay t) kind ∙ on-curves t
+      ∙ ap (bounds delay t f g) (third-in (claimContent s c k) (bound delay t) kind)
+    where
+      on-curves : (t : Tightness) → claimOn s (c .curves) (statedOf (bound delay t) (claimIn (claimContent s c k))) ≡ bounds delay t f g (claimIn (claimContent s c k) .third)
+      on-curves atMost = refl
+      on-curves exactly = refl
+
+  delay-says : Says (bounds delay t f g X) r
+  delay-says = subst (λ (x : Claim). Says x r) delay-claim (judged .says)
+
+  delay-well : WellFormed f × WellFormed g × (X ≤ maxX)
+  delay-well = subst WellFormedClaim delay-claim (judged .well-formed)
+
+  -- code 1 exactly when the horizon is within the limit and every tick has a least wait of at most X; of kind 5, when
+  -- some tick's is X, too
+  pub accepted-delay : (r .code ≡ 1) ↔ ((horizon (bounds delay t f g X) ≤ maxHorizon) × Delayed t (value f) (value g) X)
+  accepted-delay =
+      let means = delay-means f g (delay-well .0 .period-positive) (delay-well .1 .period-positive) (delay-well .1 .rises) t X in
+      let code = delay-says .code-1 in
+      (λ e. (code .0 e .0, means .0 (code .0 e .1)), λ m. code .1 (m .0, means .1 (m .1)))
 
 -- "yes exactly when there is at least one claim and all are accepted": each is within the limit and holds at every tick
 pub certified-means : {s b : List ℕ} {a : ℕ} {after : List ℕ} → (judged : Judged s b a after)

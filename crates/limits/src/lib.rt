@@ -10,6 +10,7 @@ ghost use Rattle.limits.specs.Told.{Told};
 use curve::Claim;
 use curve::Curve;
 use curve::Deviation;
+use curve::values::seam_holds;
 
 // The first `count` values: none above the limit, none below the one before it.
 fn listed_well(listed: &[u32], count: usize) -> bool
@@ -44,7 +45,10 @@ fn well_formed(f: Curve) -> bool
     if Curve::MAX_UNITS < f.increment {
         return false;
     }
-    listed_well(&f.listed, count as usize)
+    if !listed_well(&f.listed, count as usize) {
+        return false;
+    }
+    seam_holds(f.rank, f.period, f.increment, &f.listed)
 }
 
 fn within(deviation: Deviation) -> bool

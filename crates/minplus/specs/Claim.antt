@@ -7,6 +7,9 @@
 --     Deviation, allowed   kinds 4 to 7: the value that f may have at a tick; Tightness: a bound, or the least one
 --     Bound                f stays within what is allowed, at every tick
 --     VerticalDeviation    the trade's definition of the backlog, which kind 7 claims (backlog-exact)
+--     LeastWait            how long f(s) waits until g serves it; WaitsAtMost: no tick waits longer than X, which kind
+--                          4 claims where g never falls
+--     HorizontalDeviation  source document 003's definition of the delay, which kind 5 claims there (Delay.antt)
 --     Kind, kindNumber     the seven kinds and their numbers
 --     kindBy               the kind of a number, if it is one's: exactly what kindNumber says (kind-by, kind-none)
 --     Claim, kindOf        a claim over its curves, and its kind
@@ -52,6 +55,20 @@ Bound δ f g X = (s : ℕ) → f s ≤ allowed δ g X s
 -- as 0
 abbrev pub VerticalDeviation : (ℕ → ℕ) → (ℕ → ℕ) → ℕ → Type 0
 VerticalDeviation f g X = ((s : ℕ) → f s - g s ≤ X) × ((s : ℕ) × (f s - g s ≡ X))
+
+-- Source document 003, equation 7, "h(f,g) = sup over s >= 0 of inf { w >= 0 | f(s) <= g(s+w) }", on ticks. The inf: a
+-- wait of w serves f(s), and no sooner one does
+pub record LeastWait (f g : ℕ → ℕ) (s w : ℕ) : Type 0 where
+  pub serves : f s ≤ g (s + w)
+  pub no-sooner : (v : ℕ) → v < w → g (s + v) < f s
+
+-- every tick has a least wait, and it is at most X
+abbrev pub WaitsAtMost : (ℕ → ℕ) → (ℕ → ℕ) → ℕ → Type 0
+WaitsAtMost f g X = (s : ℕ) → (w : ℕ) × LeastWait f g s w × (w ≤ X)
+
+-- the sup, which is attained: the largest, over all s, of the least wait that serves f(s)
+abbrev pub HorizontalDeviation : (ℕ → ℕ) → (ℕ → ℕ) → ℕ → Type 0
+HorizontalDeviation f g X = WaitsAtMost f g X × ((s : ℕ) × LeastWait f g s X)
 
 pub data Kind : Type 0 where
   result : Operation → Kind

@@ -2,13 +2,15 @@
 --
 -- Document 01, 'Curves': "A curve has a rank T, period d, increment c and listed values f(0) to f(T+d-1). For n >= T,
 -- f(n+d) = f(n)+c. Limits: d >= 1, T+d <= 256, c and each listed value <= 1,000,000. Curves never fall: no listed value
--- is below the one before it."
+-- is below the one before it." Document 02, A2: "Refusal 9 must also be given when f(T)+c is below f(T+d-1)."
 --
 --     Curve                     rank T, period d, increment c, listed values
 --     maxListed, maxUnits       the limits
 --     count f, listedAt f n     T + d, and the n-th listed value
---     WellFormed f              every limit of that paragraph; wellFormed f is the same as a test that computes
---                               (well-formed)
+--     Rising f                  the two rules by which a curve never falls: in its list, and over the seam where one
+--                               period meets the next; Rising.antt: they hold exactly when its value never falls
+--     WellFormed f              every limit of that paragraph, and Rising; wellFormed f is the same as a test that
+--                               computes (well-formed), seamHolds f its last one
 --     value f n                 f(n), at any tick n
 --     value-listed              below T + d it is the listed value
 --     value-gains               from T on it gains c over d; value-repeats: and k*c over k*d
@@ -48,18 +50,27 @@ count f = f .rank + f .period
 abbrev pub listedAt : Curve → ℕ → ℕ
 listedAt f n = getD (f .listed) n 0
 
+-- "no listed value is below the one before it", and f(T)+c, the first value of the next period, is not below f(T+d-1)
+pub record Rising (f : Curve) : Type 0 where
+  pub listed-rise : (n : ℕ) → n < count f - 1 → listedAt f n ≤ listedAt f (suc n)
+  pub seam-holds : listedAt f (count f - 1) ≤ listedAt f (f .rank) + f .increment
+
 pub record WellFormed (f : Curve) : Type 0 where
   pub period-positive : 1 ≤ f .period
   pub count-fits : count f ≤ maxListed
   pub listed-whole : length (f .listed) ≡ count f
   pub increment-fits : f .increment ≤ maxUnits
   pub values-fit : (n : ℕ) → n < count f → listedAt f n ≤ maxUnits
-  pub never-falls : (n : ℕ) → n < count f - 1 → listedAt f n ≤ listedAt f (suc n)
+  pub rises : Rising f
 
 -- f(n): the tick's place in the list, and the increments of the whole periods since the rank. Below the rank the
 -- truncated difference is 0, and so are its quotient and its remainder
 unfoldable pub value : Curve → ℕ → ℕ
 value f n = listedAt f (min n (f .rank) + (n - f .rank) % f .period) + (n - f .rank) / f .period * f .increment
+
+-- f(T)+c is not below f(T+d-1)
+abbrev pub seamHolds : Curve → Bool
+seamHolds f = leb (listedAt f (count f - 1)) (listedAt f (f .rank) + f .increment)
 
 -- WellFormed as a test
 unfoldable pub wellFormed : Curve → Bool
@@ -71,6 +82,7 @@ wellFormed f =
     && leb (f .increment) maxUnits
     && allBelow (λ n. leb (listedAt f n) maxUnits) (count f)
     && allBelow (λ n. leb (listedAt f n) (listedAt f (suc n))) (count f - 1)
+    && seamHolds f
 
 -- ---- laws
 
@@ -142,8 +154,10 @@ well-formed f =
     let t₂ = both-true _ (eqb (length (f .listed)) (count f)) in
     let t₃ = both-true _ (leb (f .increment) maxUnits) in
     let t₄ = both-true _ (allBelow fits (count f)) in
-    let t₅ = both-true _ (allBelow rises (count f - 1)) in (
-      λ e₅.
+    let t₅ = both-true _ (allBelow rises (count f - 1)) in
+    let t₆ = both-true _ (seamHolds f) in (
+      λ e₆.
+          let e₅ = t₆ .0 e₆ .0 in
           let e₄ = t₅ .0 e₅ .0 in
           let e₃ = t₄ .0 e₄ .0 in
           let e₂ = t₃ .0 e₃ .0 in
@@ -154,12 +168,16 @@ well-formed f =
             listed-whole = eqb-true _ _ (t₂ .0 e₂ .1);
             increment-fits = leb-true _ _ (t₃ .0 e₃ .1);
             values-fit = λ n lt. leb-true _ _ (all-below fits _ .0 (t₄ .0 e₄ .1) n lt);
-            never-falls = λ n lt. leb-true _ _ (all-below rises _ .0 (t₅ .0 e₅ .1) n lt);
+            rises = record {
+              listed-rise = λ n lt. leb-true _ _ (all-below rises _ .0 (t₅ .0 e₅ .1) n lt);
+              seam-holds = leb-true _ _ (t₆ .0 e₆ .1);
+            };
           },
       λ w.
           let e₁ = t₁ .1 (le-leb _ _ (w .period-positive), le-leb _ _ (w .count-fits)) in
           let e₂ = t₂ .1 (e₁, eq-eqb _ _ (w .listed-whole)) in
           let e₃ = t₃ .1 (e₂, le-leb _ _ (w .increment-fits)) in
           let e₄ = t₄ .1 (e₃, all-below fits _ .1 (λ n lt. le-leb _ _ (w .values-fit n lt))) in
-          t₅ .1 (e₄, all-below rises _ .1 (λ n lt. le-leb _ _ (w .never-falls n lt))),
+          let e₅ = t₅ .1 (e₄, all-below rises _ .1 (λ n lt. le-leb _ _ (w .rises .listed-rise n lt))) in
+          t₆ .1 (e₅, le-leb _ _ (w .rises .seam-holds)),
     )

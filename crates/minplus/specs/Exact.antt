@@ -5,7 +5,8 @@
 --     accepted-exactly    code 1 exactly when the horizon is at most 4,096 and what is claimed is so
 --     rate-exactly        code 3 exactly when the horizon is at most 4,096, no tried tick breaks the rule and c*d' >
 --                         c'*d
---     backlog-exact       kind 7 claims the vertical deviation
+--     backlog-exact       kind 7 claims the vertical deviation (kinds 4 and 5: Delay.antt)
+--     least-bound         where X is a bound, some Y of at most X is the least: what kinds 5 and 7 claim of it is so
 --     results-judged      kinds 1 to 3 within 4,096: accepted and equal at every tick, or the first tick that differs
 --                         is named with both values
 --     refuted-exactly     so there code 2 is given exactly when h and the due value differ somewhere
@@ -14,13 +15,13 @@
 -- Before them: a tick's test and its rule (rule-kept, rule-broken), from the tried ticks to every tick (results-agree,
 -- tried-enough, rate-outpaced, rate-due), and what each test on the way to a verdict tells (break-none, break-at,
 -- break-found, less-means).
-use Prim.Native.Nat.{ℕ, _+_, _-_, _≤_, _<_, max}
+use Prim.Native.Nat.{ℕ, zero, suc, _+_, _-_, _≤_, _<_, max}
 use mathlib.Core.Path.{_≡_, refl, sym, ap, _∙_, subst}
 use mathlib.Core.Bool.{Bool, true, false, false≢true}
 use mathlib.Core.Logic.{_↔_, _⊎_, inl, inr, ⊎-elim}
 use mathlib.Core.Option.{Option, none, some}
 use native.Mathlib.Omega.{arith}
-use native.Mathlib.Nat.{eq-zero-or-pos, not-le-of-lt}
+use native.Mathlib.Nat.{eq-zero-or-pos, le-refl, not-le-of-lt}
 use lib.Dec.{ltb}
 use borrow.Author.Tests.{ltb-true, ltb-false, lt-ltb, le-ltb, eqb-true, eqb-false, not-true, not-false}
 use Rattle.minplus.specs.Claim.{Bound, Claim, Claimed, Deviation, Operation, VerticalDeviation, allowed, atMost, backlog, bounds, delay, due, equals, exactly}
@@ -78,7 +79,7 @@ bound-gains δ f g X positive positive′ = (
   allowed-gains δ X (gains-later _ (omega arith) (right-gains f g positive positive′)),
 )
 
-tried-enough : (c : Claim) → Proper c → byRate c ≡ false → ((n : ℕ) → n < tried c → Rule c n) → (n : ℕ) → Rule c n
+pub tried-enough : (c : Claim) → Proper c → byRate c ≡ false → ((n : ℕ) → n < tried c → Rule c n) → (n : ℕ) → Rule c n
 unfolding byRate tried horizon
 tried-enough (equals op f g h) p e all = results-agree op f g h p all
 tried-enough (bounds δ t f g X) p e all =
@@ -149,7 +150,7 @@ loose-tight (bounds δ exactly f g X) l (inl e) = absurd (omega (arith, l .0, e)
 loose-tight (bounds δ exactly f g X) l (inr t) = t .1 (l .1 (t .0))
 
 -- a claim whose rule holds at every tick is not refuted by rate, and its second test is settled
-rate-kept : (c : Claim) → Proper c → ((n : ℕ) → Rule c n) → byRate c ≡ false
+pub rate-kept : (c : Claim) → Proper c → ((n : ℕ) → Rule c n) → byRate c ≡ false
 rate-kept c p all = false-unless (byRate c) (λ e. let at = rate-outpaced c p e in at .1 (all (at .0)))
 
 less-settled : (c : Claim) → Proper c → ((n : ℕ) → Rule c n) → (b : Bool) → LessMeans c b → lessHolds c ≡ b
@@ -194,7 +195,7 @@ pub verdict-one : (c : Claim) → Proper c → (v w : Verdict) → Meaning c v �
 verdict-one c p v w m m′ = sym (verdict-meant c p v m) ∙ verdict-meant c p w m′
 
 -- what is claimed is the rule at every tick, and X the least where that is claimed
-claimed : (c : Claim) → Proper c → Claimed c ↔ (((n : ℕ) → Rule c n) × Tight c)
+pub claimed : (c : Claim) → Proper c → Claimed c ↔ (((n : ℕ) → Rule c n) × Tight c)
 claimed (equals op f g h) p = (λ all. (all, tt), λ t. t .0)
 claimed (bounds δ atMost f g X) p = (λ all. (all, tt), λ t. t .0)
 claimed (bounds δ exactly f g X) p = (λ t. (t .0, tight (t .0) (t .1)), λ t. (t .0, least (t .1)))
@@ -231,6 +232,26 @@ rate-exactly c p =
       λ v. let m = e .0 v in (m .0, m .1, rate-told c .0 (rate-due c p (m .1) (m .2))),
       λ t. e .1 (t .0, t .1, rate-outpaced c p (rate-told c .1 (t .2))),
     )
+
+-- from a bound down, as long as one less is a bound too
+pub least-bound : (δ : Deviation) (f g : Curve) → 1 ≤ f .period → 1 ≤ g .period
+    → (X : ℕ) → Bound δ (value f) (value g) X → (Y : ℕ) × (Y ≤ X) × Claimed (bounds δ exactly f g Y)
+least-bound δ f g positive positive′ zero all = (zero, le-refl zero, (all, λ some-X. absurd (omega (arith, some-X))))
+least-bound δ f g positive positive′ (suc X) all = go (least-bound δ f g positive positive′ X) (lessHolds c) (less-means c p (rate-kept c p all))
+  where
+    c : Claim
+    c = bounds δ exactly f g (suc X)
+
+    p : Proper c
+    p = (positive, positive′)
+
+    go : (Bound δ (value f) (value g) X → (Y : ℕ) × (Y ≤ X) × Claimed (bounds δ exactly f g Y))
+        → (b : Bool) → LessMeans c b → (Y : ℕ) × (Y ≤ suc X) × Claimed (bounds δ exactly f g Y)
+    go lower true l =
+        let e : suc X - 1 ≡ X = omega arith in
+        let least = lower (rw e at (l .1)) in
+        (least .0, omega (arith, least .1), least .2)
+    go lower false t = (suc X, le-refl (suc X), claimed c p .1 (all, t))
 
 -- kind 7 claims the vertical deviation
 pub backlog-exact : (f g : Curve) (X : ℕ) → 1 ≤ f .period → 1 ≤ g .period

@@ -5,6 +5,7 @@
 --
 --     table, ground     what is asked and the due answer; the test: every answer is the due one
 --     A, B, convAB      the curves of W4 and W8
+--     ten, vendor       what request A2 is about: a flat arrival, and a service that falls
 use Prim.Native.Nat.{ℕ, _+_}
 use lib.ListN.{replicate}
 use mathlib.Core.Bool.{Bool, false, true}
@@ -106,13 +107,18 @@ rising : Curve
 unfolding curve
 rising = curve 1 4 4 (0 ∷ 1 ∷ 2 ∷ 3 ∷ 4 ∷ [])
 
--- 0, 10, 1, 11 and so on: the listed values rise, and the curve falls at the seam of its period
-seam : Curve
+-- the vendor's curve of document 02, A2: 0, 10, 1, 11 and so on. Its listed values rise, and it falls at the seam of its
+-- period
+unfoldable pub vendor : Curve
 unfolding curve
-seam = curve 0 2 1 (0 ∷ 10 ∷ [])
+vendor = curve 0 2 1 (0 ∷ 10 ∷ [])
+
+unfoldable pub ten : Curve
+unfolding flat
+ten = flat 0 1 10
 
 table : List Row
-unfolding _is_ flat A B S minAB convAB line late steep four six rising seam
+unfolding _is_ flat A B S minAB convAB line late steep four six rising vendor ten
 table =
     -- W1
     valueOf A 5 is number 8
@@ -241,16 +247,19 @@ table =
     ∷ verdictOf (equals sum A B (flat 0 1 0)) is judged (refutedAt 1 4 0)
     ∷ verdictOf (equals minimum A B (flat 0 1 0)) is judged (refutedAt 3 2 0)
     ∷ verdictOf (equals convolution A B (flat 0 1 0)) is judged (refutedAt 3 2 0)
-    -- a curve that falls at its seam
-    ∷ valueOf seam 2 is number 1
-    ∷ verdictOf (equals sum seam seam (curve 0 2 2 (0 ∷ 20 ∷ []))) is judged accepted
-    -- and with which 0 bounds the delay and 1 does not
-    ∷ verdictOf (bounds delay atMost seam seam 0) is judged accepted
-    ∷ verdictOf (bounds delay atMost seam seam 1) is judged (refutedAt 1 10 1)
+    -- a service that gains nothing: what is above it waits without end, and no X is a bound; what is at it waits for
+    -- its rank alone
+    ∷ verdictOf (bounds delay atMost ten (flat 2 1 9) 1_000_000_000) is judged (refutedAt 0 10 9)
+    ∷ verdictOf (bounds delay exactly ten (curve 2 1 0 (0 ∷ 9 ∷ 10 ∷ [])) 2) is judged accepted
+    -- the vendor's curve falls, so the table's exact delay on it is none that anybody would measure: 19, where no tick
+    -- waits longer than 1 (vendor-waits, Met.antt). No book can hold it
+    ∷ valueOf vendor 2 is number 1
+    ∷ verdictOf (bounds delay exactly ten vendor 19) is judged accepted
+    ∷ formed vendor is truth false
     -- a horizon of some sixteen million: no tick is tried
     ∷ verdictOf (equals convolution (flat 0 256 0) (flat 0 255 0) (flat 0 253 0)) is judged notJudged
     -- the limits of a curve, each at its edge and one beyond; the first and the last pair of listed values are looked
-    -- at too, the seam is not
+    -- at too, and then the seam
     ∷ formed (flat 0 256 1_000_000) is truth true
     ∷ formed (flat 1 256 0) is truth false
     ∷ formed (flat 1 0 0) is truth false
@@ -261,7 +270,8 @@ table =
     ∷ formed (curve 0 2 0 (0 ∷ [])) is truth false
     ∷ formed (curve 1 2 0 (5 ∷ 4 ∷ 4 ∷ [])) is truth false
     ∷ formed (curve 1 2 0 (0 ∷ 5 ∷ 4 ∷ [])) is truth false
-    ∷ formed seam is truth true
+    ∷ formed (curve 1 2 3 (0 ∷ 2 ∷ 5 ∷ [])) is truth true
+    ∷ formed (curve 1 2 2 (0 ∷ 2 ∷ 5 ∷ [])) is truth false
     -- and of X
     ∷ formedClaim (bounds delay atMost A B 1_000_000_000) is truth true
     ∷ formedClaim (bounds delay atMost A B 1_000_000_001) is truth false

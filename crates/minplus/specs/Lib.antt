@@ -10,8 +10,10 @@ pub mod Meaning
 -- laws and theorems
 pub mod Search
 pub mod Gains
+pub mod Rising
 pub mod Crossing
 pub mod Ranks
 pub mod Exact
+pub mod Delay
 pub mod Ground
 pub mod Met

@@ -1,21 +1,29 @@
--- The theorems' hypotheses can be met: by the curves of W3, W4 and W8.
+-- The theorems' hypotheses can be met: by the curves of W3, W4 and W8. And one of them is needed: a service that falls
+-- has another exact delay than the longest of its least waits.
 --
 --     well-formed-A, well-formed-B, well-formed-AB     they are well formed
 --     convolution-AB, exact-delay-AB     so W4 and W8, which are accepted, hold at every tick, without end
 --     outpaced-AB       and W12, which is refuted by rate, has the faster curve on its left
 --     crossed-AB        Slower, which the laws of N ask, can be met as well
-use Prim.Native.Nat.{ℕ, _≤_}
+--     rising-B, waits-AB     B never falls, so the 3 of W8 is the longest wait; bounded-AB: and there had to be one
+--     vendor-claimed, vendor-waits     the vendor's curve, which falls: the table's exact delay of flat 10 on it is 19,
+--                                      and the longest wait is 1
+use Prim.Native.Nat.{ℕ, _+_, _-_, _*_, _/_, _%_, _≤_, _<_}
 use lib.Dec.{lit<, lit≤}
-use mathlib.Core.Path.{_≡_, refl}
+use mathlib.Core.Path.{_≡_, refl, ap, _∙_}
+use native.Mathlib.Nat.{mod-lt, mod-add-div'}
 use native.Mathlib.Omega.{arith}
-use Rattle.minplus.specs.Claim.{Claim, Claimed, atMost, bounds, convolution, delay, due, equals, exactly}
+use Rattle.minplus.specs.Claim.{Bound, Claim, Claimed, HorizontalDeviation, LeastWait, atMost, bounds, convolution, delay, due, equals, exactly}
 use Rattle.minplus.specs.Conv.{conv}
-use Rattle.minplus.specs.Curve.{WellFormed, value, well-formed, wellFormed}
+use Rattle.minplus.specs.Curve.{WellFormed, value, value-gains, value-repeats, well-formed, wellFormed}
+use Rattle.minplus.specs.Delay.{bounded-exactly, delay-means, gains-serve, least-wait}
 use Rattle.minplus.specs.Exact.{accepted-exactly, rate-exactly}
-use Rattle.minplus.specs.Ground.{A, B, convAB}
+use Rattle.minplus.specs.Gains.{every-period}
+use Rattle.minplus.specs.Ground.{A, B, convAB, ten, vendor}
 use Rattle.minplus.specs.Horizon.{minimumN}
 use Rattle.minplus.specs.Meaning.{Outpaced, well-formed-proper}
 use Rattle.minplus.specs.Ranks.{crossed}
+use Rattle.minplus.specs.Rising.{NeverFalls, rising-exactly}
 use Rattle.minplus.specs.Verdict.{verdict}
 
 well-formed-A : WellFormed A
@@ -53,3 +61,43 @@ outpaced-AB =
 pub crossed-AB : (n : ℕ) → 7 ≤ n → value A n ≤ value B n
 unfolding minimumN A B
 crossed-AB n le = crossed A B (well-formed-A .period-positive) (well-formed-B .period-positive) (lit< tt) n le (omega arith) (omega arith)
+
+rising-B : NeverFalls (value B)
+rising-B = rising-exactly B (well-formed-B .period-positive) .0 (well-formed-B .rises)
+
+-- W8 in the words of source document 003
+pub waits-AB : HorizontalDeviation (value A) (value B) 3
+waits-AB = delay-means A B (well-formed-A .period-positive) (well-formed-B .period-positive) (well-formed-B .rises) exactly 3 .0 exact-delay-AB
+
+pub bounded-AB : (X : ℕ) × Bound delay (value A) (value B) X
+unfolding A B
+bounded-AB =
+    let rises = well-formed-B .rises in
+    bounded-exactly A B (well-formed-A .period-positive) (well-formed-B .period-positive) rises .1 (
+      lit≤ tt,
+      gains-serve A B (well-formed-A .period-positive) (well-formed-B .period-positive) rises (lit≤ tt),
+    )
+
+pub vendor-claimed : Claimed (bounds delay exactly ten vendor 19)
+unfolding verdict ten vendor
+vendor-claimed = accepted-exactly (bounds delay exactly ten vendor 19) (lit≤ tt, lit≤ tt) .0 refl .1
+
+-- 10 is served at every odd tick
+pub vendor-waits : HorizontalDeviation (value ten) (value vendor) 1
+unfolding value ten vendor
+vendor-waits = (
+  λ s. by-parity s (s % 2) (s / 2) (mod-lt s (lit< tt)) (mod-add-div' s 2),
+  (0, record { serves = lit≤ tt; no-sooner = λ v lt. let e : v ≡ 0 = omega (arith, lt) in rw e (lit< tt) }),
+)
+  where
+    all-ten : (s : ℕ) → value ten s ≡ 10
+    all-ten s = every-period (λ n. value ten n ≡ 10) 0 1 (lit< tt) (λ n lt. let e : n ≡ 0 = omega (arith, lt) in rw e) (λ n le e. value-gains ten (lit≤ tt) .gain n (omega arith) ∙ omega (arith, e)) s
+
+    odd : (k : ℕ) → value vendor (1 + k * 2) ≡ 10 + k * 1
+    odd k = value-repeats vendor (lit≤ tt) 1 k (omega arith)
+
+    by-parity : (s r k : ℕ) → r < 2 → r + k * 2 ≡ s → (w : ℕ) × LeastWait (value ten) (value vendor) s w × (w ≤ 1)
+    by-parity s r k lt e =
+        let at : s + (1 - r) ≡ 1 + k * 2 = omega (arith, lt, e) in
+        let wait = least-wait (value ten) (value vendor) s (1 - r) (omega (arith, all-ten s, ap (value vendor) at, odd k)) in
+        (wait .0, wait .1, omega (arith, wait .2))

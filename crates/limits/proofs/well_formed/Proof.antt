@@ -1,6 +1,9 @@
+use mathlib.Core.Path.{sym, subst}
 use native.Mathlib.Omega.{arith}
-use Rattle.curve.specs.Held.{listed-held, held-listed}
-use Rattle.limits.specs.Told.{no, told-map}
+use Rattle.minplus.specs.Curve.{WellFormed}
+use Rattle.curve.specs.Held.{curveOf, listed-held, held-listed}
+use Rattle.limits.specs.Told.{Told, no, told-leb, told-map, told-no, told-yes}
+use borrow.Author.Tests.{not-true, not-false}
 use borrow.Author.Needs.{needs}
 use Rattle.limits.proofs.well_formed.Statement.{statement}
 use Rattle.limits.proofs.well_formed.Tie as tie
@@ -28,11 +31,22 @@ listed-well-requires c κs = search needs
 
 returns-4 : tie.Need-returns-4
 returns-4 c =
-    let f = c .before .before .before .before .before .before .before .args .t1 in
-    told-map
-    (listed-held (f .rank .0) (f .period .0) (f .increment) (f .listed) (omega arith) (omega arith) (omega arith) (omega arith))
-    (held-listed (f .rank .0) (f .period .0) (f .increment) (f .listed))
-    (c .listed-well .ensures)
+    let f = c .before .before .before .before .before .before .before .before .args .t1 in
+    no (λ w. told-no (c .before .listed-well .ensures) (not-true _ (c .if4 .taken)) (held-listed (f .rank .0) (f .period .0) (f .increment) (f .listed) w))
+
+seam-holds-requires : tie.Need-seam-holds-requires
+seam-holds-requires c κs = search needs
+
+returns-5 : tie.Need-returns-5
+returns-5 c =
+    let at = c .before .before .before .before .before .before in
+    let f = at .before .before .before .before .before .before .before .before .args .t1 in
+    let listed = told-yes (at .before .listed-well .ensures) (not-false _ (at .if4 .left)) in
+    subst (Told (WellFormed (curveOf f))) (sym (c .seam-holds .ensures))
+    (told-map
+    (listed-held (f .rank .0) (f .period .0) (f .increment) (f .listed) (omega arith) (omega arith) (omega arith) (omega arith) listed)
+    (λ w. w .rises .seam-holds)
+    (told-leb _ _))
 
 pub well-formed-spec : {M : Type 1} → statement M
 well-formed-spec =
@@ -45,4 +59,6 @@ well-formed-spec =
     returns-2
     returns-3
     listed-well-requires
-    returns-4)
+    returns-4
+    seam-holds-requires
+    returns-5)

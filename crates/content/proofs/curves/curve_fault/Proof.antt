@@ -48,6 +48,14 @@ taken c =
     let bytes = content (c .before .before .before .before .before .before) in
     ap₂ take (count (c .before .before)) (array c) ∙ filled-taken (valueIn bytes) maxListed (countIn bytes)
 
+taken-all : (c : tie.After-curve-in)
+    → let rank = c .before .before .before .before .before .number2 .result in
+    let period = c .before .before .before .before .number22 .result in
+    length (take (rank + period) (c .curve-in .result .listed)) ≡ rank + period
+taken-all c =
+    let bytes = content (c .before .before .before .before .before .before) in
+    ap length (taken c) ∙ length-listOf (valueIn bytes) (countIn bytes) ∙ sym (count (c .before .before))
+
 returns : tie.Need-returns
 unfolding curveFault
 returns c = rw (lt-ltb (length (now (c .before .before .args .content))) curveHead (c .if1 .taken))
@@ -103,13 +111,10 @@ array-share-prefix-listed c =
     rw (array at, filled-length (valueIn bytes) maxListed (countIn bytes) (fits (at .before .before)), count (at .before .before)) (fits (at .before .before))
 
 slice-aggregate-limit-fault : tie.Need-slice-aggregate-limit-fault
-slice-aggregate-limit-fault c =
-    let at = c .before .before .before in
-    let bytes = content (at .before .before .before .before .before .before) in
-    count (at .before .before) ∙ sym (ap length (taken at) ∙ length-listOf (valueIn bytes) (countIn bytes))
+slice-aggregate-limit-fault c = sym (taken-all (c .before .before .before))
 
 limit-fault-requires : tie.Need-limit-fault-requires
-limit-fault-requires c κs = search needs
+limit-fault-requires c κs = taken-all (c .before .before .before)
 
 returns-4 : tie.Need-returns-4
 unfolding curveFault
@@ -119,7 +124,13 @@ returns-4 c =
     let spanning = sized .before in
     let bytes = content (spanning .before .before .before .before) in
     rw (long (spanning .before .before .before .before), sym (spans (spanning .before)) ∙ spanning .if2 .left, eq-eqb (length bytes) (curveHead + 4 * countIn bytes) (omega (arith, count spanning, sized .if3 .left)))
-    (c .limit-fault .ensures ∙ ap₂ limitFault (ap (λ (f : Curve). f .increment) (at .curve-in .ensures)) (taken at))
+    (c .limit-fault .ensures
+    ∙ (λ i. limitFault (record {
+      rank = spanning .before .before .before .number2 .ensures .0 i;
+      period = spanning .before .before .number22 .ensures .0 i;
+      increment = at .curve-in .ensures i .increment;
+      listed = taken at i;
+    })))
 
 pub curve-fault-spec : {M : Type 1} → statement M
 curve-fault-spec =

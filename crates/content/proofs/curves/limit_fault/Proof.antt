@@ -1,5 +1,11 @@
+use Prim.Native.Nat.{ℕ, _+_}
+use mathlib.Core.List.{List}
+use mathlib.Core.Path.{_≡_, ap, _∙_}
+use native.Mathlib.Omega.{arith}
+use lib.Seq.{take-all}
+use denote.Ref.{now}
 use borrow.Author.Tests.{lt-ltb, le-ltb}
-use Rattle.minplus.specs.Curve.{maxUnits}
+use Rattle.minplus.specs.Curve.{Curve, maxUnits, seamHolds}
 use Rattle.content.specs.Refusals.{limitFault}
 use borrow.Author.Needs.{needs}
 use Rattle.content.proofs.curves.limit_fault.Statement.{statement}
@@ -29,11 +35,33 @@ returns-3 c =
     let s = c .before .before .before .before in
     rw (le-ltb maxUnits (s .before .before .args .increment) (s .if1 .left), ← (c .before .before .before .values-fit .ensures), c .before .before .if2 .left, ← (c .before .values-rise .ensures), c .if3 .taken)
 
+cast-seam-holds : tie.Need-cast-seam-holds
+cast-seam-holds c = search needs
+
+seam-holds-requires : tie.Need-seam-holds-requires
+seam-holds-requires c κs = search needs
+
+-- of the list that is lent all is held: it has T+d values
+seam : (c : tie.After-seam-holds)
+    → let a = c .before .before .before .before .before .before .before .args in
+    c .seam-holds .result ≡ seamHolds (record { rank = a .rank; period = a .period; increment = a .increment; listed = now (a .values) })
+seam c =
+    let start = c .before .before .before .before .before .before .before in
+    let a = start .args in
+    c .seam-holds .ensures
+    ∙ ap (λ (l : List ℕ). seamHolds (record { rank = a .rank; period = a .period; increment = a .increment; listed = l })) (take-all (a .rank + a .period) (now (a .values)) (omega (arith, start .pre)))
+
 returns-4 : tie.Need-returns-4
 unfolding limitFault
 returns-4 c =
-    let s = c .before .before .before .before in
-    rw (le-ltb maxUnits (s .before .before .args .increment) (s .if1 .left), ← (c .before .before .before .values-fit .ensures), c .before .before .if2 .left, ← (c .before .values-rise .ensures), c .if3 .left)
+    let s = c .before .before .before .before .before .before in
+    rw (le-ltb maxUnits (s .before .before .args .increment) (s .if1 .left), ← (c .before .before .before .before .before .values-fit .ensures), c .before .before .before .before .if2 .left, ← (c .before .before .before .values-rise .ensures), c .before .before .if3 .left, ← seam (c .before), c .if4 .taken)
+
+returns-5 : tie.Need-returns-5
+unfolding limitFault
+returns-5 c =
+    let s = c .before .before .before .before .before .before in
+    rw (le-ltb maxUnits (s .before .before .args .increment) (s .if1 .left), ← (c .before .before .before .before .before .values-fit .ensures), c .before .before .before .before .if2 .left, ← (c .before .before .before .values-rise .ensures), c .before .before .if3 .left, ← seam (c .before), c .if4 .left)
 
 pub limit-fault-spec : {M : Type 1} → statement M
 limit-fault-spec =
@@ -45,4 +73,7 @@ limit-fault-spec =
     returns-2
     values-rise-requires
     returns-3
-    returns-4)
+    cast-seam-holds
+    seam-holds-requires
+    returns-4
+    returns-5)
