@@ -81,7 +81,8 @@ enum zurmakida_refusal_number {
     ZURMAKIDA_REFUSED_CURVE_LENGTH = 6,   /* curve: the length is under 8, or isn't 8+4*(T+d) */
     ZURMAKIDA_REFUSED_RANK_PERIOD = 7,    /* curve: d = 0 or T+d > 256 */
     ZURMAKIDA_REFUSED_OVER_LIMIT = 8,     /* curve: c or a value is over 1,000,000 */
-    ZURMAKIDA_REFUSED_VALUES_FALL = 9,    /* curve: a value is below the one before it */
+    ZURMAKIDA_REFUSED_VALUES_FALL = 9,    /* curve: a value is below the one before it, or f(T)+c, where the next period
+                                             begins, is below f(T+d-1) */
     ZURMAKIDA_REFUSED_CLAIM = 10,         /* claim: empty, unknown kind or wrong length */
     ZURMAKIDA_REFUSED_NO_SUCH_CURVE = 11, /* claim: an id that names no curve. From curve_value also: no such curve,
                                              place 0 */

@@ -4,7 +4,8 @@
 -- has a row here.
 --
 --     table, ground     a book and how many bytes are lent, and the due answer; the test: every answer is the due one
---     inspected-w8      W8 is accepted, and its record is written; short-w8: with a byte too few for it, it is refused
+--     inspected-w8      W8, a claim of kind 5, is accepted, and its record is written; short-w8: with a byte too few
+--                       for it, it is refused
 --     inspected-w4      W4 has a claim of kind 3 that is accepted
 --     inspected-w5      the bytes of W5's record: code 2, tick 6, due 7, claimed 8
 --     inspected-mixed   one claim accepted, two refuted and three not judged
@@ -13,7 +14,7 @@ use mathlib.Core.Path.{_≡_, refl}
 use mathlib.Core.List.{List, [], _∷_, _++_, flatMap, map}
 use mathlib.Core.Option.{some}
 use lib.ListN.{replicate, take}
-use Rattle.minplus.specs.Claim.{kindBy, result, convolution}
+use Rattle.minplus.specs.Claim.{bound, convolution, delay, exactly, kindBy, result}
 use Rattle.curve.specs.Filled.{listOf}
 use Rattle.content.specs.Layout.{kindIn}
 use Rattle.content.specs.Refusals.{numberOf}
@@ -47,6 +48,14 @@ mixed =
     ++ (2 ∷ 0 ∷ 7 ∷ 5 ∷ 0 ∷ 1 ∷ 0 ∷ 0 ∷ 0 ∷ 3 ∷ []) ++ (2 ∷ 0 ∷ 7 ∷ 4 ∷ 0 ∷ 1 ∷ 0 ∷ 0 ∷ 0 ∷ 2 ∷ []) ++ (2 ∷ 0 ∷ 7 ∷ 5 ∷ 0 ∷ 1 ∷ 0 ∷ 0 ∷ 0 ∷ 4 ∷ [])
     ++ (2 ∷ 0 ∷ 4 ∷ 1 ∷ 2 ∷ 3 ∷ 4 ∷ []) ++ (2 ∷ 0 ∷ 4 ∷ 1 ∷ 2 ∷ 3 ∷ 4 ∷ []) ++ (2 ∷ 0 ∷ 4 ∷ 1 ∷ 2 ∷ 3 ∷ 4 ∷ []) ++ ended)
 
+-- document 02, A2: flat 10, the vendor's curve, and the exact delay 19 of the first on the second
+vendors : List ℕ
+unfolding begun ended
+vendors =
+    begun ((1 ∷ 0 ∷ 12 ∷ 0 ∷ 0 ∷ 0 ∷ 1 ∷ 0 ∷ 0 ∷ 0 ∷ 0 ∷ 0 ∷ 0 ∷ 0 ∷ 10 ∷ [])
+    ++ (1 ∷ 0 ∷ 16 ∷ 0 ∷ 0 ∷ 0 ∷ 2 ∷ 0 ∷ 0 ∷ 0 ∷ 1 ∷ 0 ∷ 0 ∷ 0 ∷ 0 ∷ 0 ∷ 0 ∷ 0 ∷ 10 ∷ [])
+    ++ (2 ∷ 0 ∷ 7 ∷ 5 ∷ 0 ∷ 1 ∷ 0 ∷ 0 ∷ 0 ∷ 19 ∷ []) ++ ended)
+
 record Row : Type 0 where
   book : List ℕ
   room : ℕ
@@ -60,7 +69,7 @@ unfolding zeros
 sixteen = let four = zeros 1 ++ zeros 1 ++ zeros 1 ++ zeros 1 in four ++ four ++ four ++ four
 
 table : List Row
-unfolding answers begun zeros ended sixteen w8 mixed flatMap
+unfolding answers begun zeros ended sixteen w8 mixed vendors flatMap
 table =
     -- each refusal number, with the place of the field. 1: fewer than 3 bytes are left; content runs past the book
     answers (begun (1 ∷ 0 ∷ [])) 0 (1 + 2 ^ 8 * 4)
@@ -95,6 +104,11 @@ table =
     ∷ answers (begun (1 ∷ 0 ∷ 12 ∷ 0 ∷ 0 ∷ 0 ∷ 1 ∷ 0 ∷ 0 ∷ 0 ∷ 0 ∷ 1 ∷ 0 ∷ 0 ∷ 0 ∷ [])) 0 (8 + 2 ^ 8 * 4)
     -- 9: 1, then 0
     ∷ answers (begun (1 ∷ 0 ∷ 16 ∷ 0 ∷ 0 ∷ 0 ∷ 2 ∷ 0 ∷ 0 ∷ 0 ∷ 0 ∷ 0 ∷ 0 ∷ 0 ∷ 1 ∷ replicate 4 0)) 0 (9 + 2 ^ 8 * 4)
+    -- 9 at the seam: the vendor's book, the exact delay 19 of flat 10 on the curve 0, 10, 1, 11
+    ∷ answers vendors 21 (9 + 2 ^ 8 * 19)
+    -- T = 1, d = 2, the values 0 2 5: sound with c = 3, and not with 2
+    ∷ answers (begun (1 ∷ 0 ∷ 20 ∷ 0 ∷ 1 ∷ 0 ∷ 2 ∷ 0 ∷ 0 ∷ 0 ∷ 3 ∷ 0 ∷ 0 ∷ 0 ∷ 0 ∷ 0 ∷ 0 ∷ 0 ∷ 2 ∷ 0 ∷ 0 ∷ 0 ∷ 5 ∷ ended)) 0 0
+    ∷ answers (begun (1 ∷ 0 ∷ 20 ∷ 0 ∷ 1 ∷ 0 ∷ 2 ∷ 0 ∷ 0 ∷ 0 ∷ 2 ∷ 0 ∷ 0 ∷ 0 ∷ 0 ∷ 0 ∷ 0 ∷ 0 ∷ 2 ∷ 0 ∷ 0 ∷ 0 ∷ 5 ∷ ended)) 0 (9 + 2 ^ 8 * 4)
     -- 10: empty
     ∷ answers (begun (zeros 1 ++ (2 ∷ 0 ∷ 0 ∷ []))) 0 (10 + 2 ^ 8 * 19)
     -- 11: there is one curve, and left, right or h is 1; right of a claim with an X
@@ -123,11 +137,12 @@ table =
     ∷ answers (begun (1 ∷ 0 ∷ 7 ∷ [])) 0 (1 + 2 ^ 8 * 4)
     ∷ answers (begun (zeros 1 ++ (2 ∷ 0 ∷ 4 ∷ 9 ∷ []))) 0 (1 + 2 ^ 8 * 19)
     ∷ answers (begun (127 ∷ 0 ∷ 1 ∷ [])) 0 (1 + 2 ^ 8 * 4)
-    -- 6 for a length under 8 before 7, 7 before 6 for another length, that before 8, 8 before 9
+    -- 6 for a length under 8 before 7, 7 before 6 for another length, that before 8, 8 before 9, at the seam too
     ∷ answers (begun (1 ∷ 0 ∷ 4 ∷ replicate 4 0)) 0 (6 + 2 ^ 8 * 4)
     ∷ answers (begun (1 ∷ 0 ∷ 12 ∷ replicate 12 0)) 0 (7 + 2 ^ 8 * 4)
     ∷ answers (begun (1 ∷ 0 ∷ 16 ∷ 0 ∷ 0 ∷ 0 ∷ 1 ∷ 0 ∷ 15 ∷ 66 ∷ 65 ∷ replicate 8 0)) 0 (6 + 2 ^ 8 * 4)
     ∷ answers (begun (1 ∷ 0 ∷ 16 ∷ 0 ∷ 0 ∷ 0 ∷ 2 ∷ 0 ∷ 0 ∷ 0 ∷ 0 ∷ 0 ∷ 15 ∷ 66 ∷ 65 ∷ replicate 4 0)) 0 (8 + 2 ^ 8 * 4)
+    ∷ answers (begun (1 ∷ 0 ∷ 16 ∷ 0 ∷ 0 ∷ 0 ∷ 2 ∷ 0 ∷ 0 ∷ 0 ∷ 0 ∷ 0 ∷ 0 ∷ 0 ∷ 0 ∷ 0 ∷ 15 ∷ 66 ∷ 65 ∷ [])) 0 (8 + 2 ^ 8 * 4)
     -- 10 before 11, 11 before 12
     ∷ answers (begun (zeros 1 ++ (2 ∷ 0 ∷ 5 ∷ 1 ∷ 0 ∷ 0 ∷ 9 ∷ 0 ∷ []))) 0 (10 + 2 ^ 8 * 19)
     ∷ answers (begun (zeros 1 ++ (2 ∷ 0 ∷ 7 ∷ 4 ∷ 1 ∷ 0 ∷ 59 ∷ 154 ∷ 202 ∷ 1 ∷ []))) 0 (11 + 2 ^ 8 * 19)
@@ -141,10 +156,11 @@ ground : map (λ r. answerOf (r .book) (replicate (r .room) 7)) table ≡ map (�
 unfolding answerOf table tagBy kindBy numberAt listOf numberOf
 ground = refl
 
--- W8 with a buffer of 24 bytes: accepted, and the last three stay
-pub inspected-w8 : (answerOf w8 (replicate 24 7) ≡ 2 ^ 24) × (bufferOf w8 (replicate 24 7) ≡ 1 ∷ (replicate 20 0 ++ replicate 3 7))
+-- W8 with a buffer of 24 bytes: an exact delay, accepted, and the last three bytes stay
+pub inspected-w8 : (kindIn (contentAt w8 46) ≡ some (bound delay exactly))
+    × (answerOf w8 (replicate 24 7) ≡ 2 ^ 24) × (bufferOf w8 (replicate 24 7) ≡ 1 ∷ (replicate 20 0 ++ replicate 3 7))
 unfolding answerOf bufferOf w8 tagBy kindBy numberAt listOf
-inspected-w8 = (refl, refl)
+inspected-w8 = (refl, refl, refl)
 
 -- with a byte too few for its record: 14 at place 0, and nothing is written
 pub short-w8 : (answerOf w8 (replicate 20 7) ≡ 14) × (bufferOf w8 (replicate 20 7) ≡ replicate 20 7)

@@ -11,8 +11,8 @@
 --     inspected               for any s and b; record-back: record k of the buffer is the record on claim k
 --     IsClaim, claimCurve     claim k and its curves, as the claim's bytes say it (claimContent)
 --     accepted-convolution    for the code 1 of kind 3 spelled out: h(n) is the least f(u)+g(n-u), at every n
---     accepted-delay          code 1 of kinds 4 and 5 exactly when X bounds the least wait of every tick, and for kind 5
---                             when X is the horizontal deviation; claimX: X, as the claim's bytes say it
+--     accepted-delay          code 1 of kind 4 exactly when every tick has a least wait of at most X, and of kind 5
+--                             exactly when X is the horizontal deviation; claimX: X, as the claim's bytes say it
 --     certified-means         a certified book: at least one claim, and each holds at every tick
 --     (Ground.antt has such books: W8 accepted, W8 refused for want of room, a claim of kind 3 accepted in W4)
 use Prim.Native.Nat.{ℕ, zero, suc, _+_, _*_, _≤_, _<_, _^_}
@@ -337,39 +337,28 @@ accepted-convolution {s} {c} {k} {r} judged kind code n =
     let least = conv-attained (value f) (value g) n in
     (λ u v e. rw equal (conv-below (value f) (value g) n u v e), (least .0, least .1, least .2, equal ∙ least .3))
 
--- kinds 4 and 5: the claim, as its bytes say it
-module _ {s : List ℕ} {c : Contents} {k : ℕ} {r : Record} (judged : ClaimJudged s c k r) (t : Tightness) (kind : kindIn (claimContent s c k) ≡ some (bound delay t)) where
-  abbrev f : Curve
-  f = claimCurve s c k 1
-
-  abbrev g : Curve
-  g = claimCurve s c k 2
-
-  abbrev X : ℕ
-  X = claimX s c k
-
-  delay-claim : judged .claim ≡ bounds delay t f g X
-  delay-claim =
-      claim-of judged (bound delay t) kind ∙ on-curves t
-      ∙ ap (bounds delay t f g) (third-in (claimContent s c k) (bound delay t) kind)
-    where
-      on-curves : (t : Tightness) → claimOn s (c .curves) (statedOf (bound delay t) (claimIn (claimContent s c k))) ≡ bounds delay t f g (claimIn (claimContent s c k) .third)
-      on-curves atMost = refl
-      on-curves exactly = refl
-
-  delay-says : Says (bounds delay t f g X) r
-  delay-says = subst (λ (x : Claim). Says x r) delay-claim (judged .says)
-
-  delay-well : WellFormed f × WellFormed g × (X ≤ maxX)
-  delay-well = subst WellFormedClaim delay-claim (judged .well-formed)
-
-  -- code 1 exactly when the horizon is within the limit and every tick has a least wait of at most X; of kind 5, when
-  -- some tick's is X, too
-  pub accepted-delay : (r .code ≡ 1) ↔ ((horizon (bounds delay t f g X) ≤ maxHorizon) × Delayed t (value f) (value g) X)
-  accepted-delay =
-      let means = delay-means f g (delay-well .0 .period-positive) (delay-well .1 .period-positive) (delay-well .1 .rises) t X in
-      let code = delay-says .code-1 in
-      (λ e. (code .0 e .0, means .0 (code .0 e .1)), λ m. code .1 (m .0, means .1 (m .1)))
+-- kinds 4 and 5: code 1 exactly when the horizon is within the limit and every tick has a least wait of at most X; for
+-- kind 5, when that of some tick is X, too
+pub accepted-delay : {s : List ℕ} {c : Contents} {k : ℕ} {r : Record} → ClaimJudged s c k r → (t : Tightness) → kindIn (claimContent s c k) ≡ some (bound delay t)
+    → (r .code ≡ 1)
+    ↔ ((horizon (bounds delay t (claimCurve s c k 1) (claimCurve s c k 2) (claimX s c k)) ≤ maxHorizon)
+    × Delayed t (value (claimCurve s c k 1)) (value (claimCurve s c k 2)) (claimX s c k))
+accepted-delay {s} {c} {k} {r} judged t kind =
+    let f : Curve = claimCurve s c k 1 in
+    let g : Curve = claimCurve s c k 2 in
+    let X : ℕ = claimX s c k in
+    let claim : judged .claim ≡ bounds delay t f g X =
+    claim-of judged (bound delay t) kind ∙ on-curves t ∙ ap (bounds delay t f g) (third-in (claimContent s c k) (bound delay t) kind) in
+    let code = subst (λ (x : Claim). Says x r) claim (judged .says) .code-1 in
+    let well : WellFormed f × WellFormed g × (X ≤ maxX) = subst WellFormedClaim claim (judged .well-formed) in
+    let means = delay-means f g (well .0 .period-positive) (well .1 .period-positive) (well .1 .rises) t X in
+    (λ e. (code .0 e .0, means .0 (code .0 e .1)), λ m. code .1 (m .0, means .1 (m .1)))
+  where
+    on-curves : (t : Tightness)
+        → claimOn s (c .curves) (statedOf (bound delay t) (claimIn (claimContent s c k)))
+        ≡ bounds delay t (claimCurve s c k 1) (claimCurve s c k 2) (claimIn (claimContent s c k) .third)
+    on-curves atMost = refl
+    on-curves exactly = refl
 
 -- "yes exactly when there is at least one claim and all are accepted": each is within the limit and holds at every tick
 pub certified-means : {s b : List ℕ} {a : ℕ} {after : List ℕ} → (judged : Judged s b a after)

@@ -10,8 +10,8 @@
 --     least-wait, least-wait-one     a tick that some wait serves has a least one, and only one; deviation-one: so two
 --                                    horizontal deviations are one
 --     no-wait                X = 0: the deviation exactly when f is at or below g throughout
---     unserved               a tick that no wait serves: no X is a bound, and none is the deviation; flat-unserved: so it
---                            is where g gains nothing and f(s) is above g(T')
+--     unserved               a tick that no wait serves: no X is a bound, and none is the deviation; flat-unserved: so
+--                            it is where g gains nothing and f(s) is above g(T')
 --     bounded-exactly        some X is a bound exactly when f is not faster than g and some wait serves each tick;
 --                            deviation-exactly: exactly then there is a horizontal deviation
 --     gains-serve            a g that gains serves each tick

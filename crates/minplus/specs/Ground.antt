@@ -107,8 +107,8 @@ rising : Curve
 unfolding curve
 rising = curve 1 4 4 (0 ∷ 1 ∷ 2 ∷ 3 ∷ 4 ∷ [])
 
--- the vendor's curve of document 02, A2: 0, 10, 1, 11 and so on. Its listed values rise, and it falls at the seam of its
--- period
+-- the vendor's curve of document 02, A2: 0, 10, 1, 11 and so on. Its listed values rise, and it falls at the seam of
+-- its period
 unfoldable pub vendor : Curve
 unfolding curve
 vendor = curve 0 2 1 (0 ∷ 10 ∷ [])
