@@ -20,6 +20,7 @@ pub enum Refusal {
     // d = 0 or T+d > 256
     CurvePeriod,
     TooManyUnits,
+    // in its list, or where one period meets the next
     CurveFalls,
     // empty, of unknown kind or of the wrong length
     WrongClaim,

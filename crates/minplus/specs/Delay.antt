@@ -44,7 +44,7 @@ module _ (f g : ℕ → ℕ) where
 
       go : (o : Option ℕ) → IsFirst enough (suc X) o → (w : ℕ) × LeastWait f g s w × (w ≤ X)
       go none (nowhere all) = absurd (not-le-of-lt (leb-false _ _ (all X (omega arith))) served)
-      go (some _) (somewhere w lt e before) = (w, record { serves = leb-true _ _ e; no-sooner = λ v less. leb-false _ _ (before v less) }, omega (arith, lt))
+      go (some _) (somewhere w lt e before) = (w, record { serves = leb-true _ _ e; no-sooner = λ v less. leb-false _ _ (before v (omega (arith, less))) }, omega (arith, lt))
 
   pub least-wait-one : (s w w′ : ℕ) → LeastWait f g s w → LeastWait f g s w′ → w ≡ w′
   least-wait-one s w w′ l l′ =
