@@ -8,7 +8,7 @@
 --     thirdWidth, claimLength         (at most 4: third-small; widthOf: by the kind, third-in)
 --     claimBytes                      the same, written
 --     kindIn, idIn                    a claim's kind and the ids in it
-use Prim.Native.Nat.{ℕ, _+_, _*_, _≤_, _<_}
+use Prim.Native.Nat.{ℕ, _+_, _*_, _≤_}
 use mathlib.Core.Path.{_≡_, refl, ap, _∙_}
 use mathlib.Core.Bool.{Bool, true, false}
 use mathlib.Core.List.{List, _++_, flatMap}

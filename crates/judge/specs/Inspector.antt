@@ -15,35 +15,33 @@
 --                             exactly when X is the horizontal deviation; claimX: X, as the claim's bytes say it
 --     certified-means         a certified book: at least one claim, and each holds at every tick
 --     (Ground.antt has such books: W8 accepted, W8 refused for want of room, a claim of kind 3 accepted in W4)
-use Prim.Native.Nat.{ℕ, zero, suc, _+_, _*_, _≤_, _<_, _^_}
+use Prim.Native.Nat.{ℕ, zero, suc, _+_, _*_, _≤_, _<_}
 use mathlib.Core.Path.{_≡_, refl, sym, ap, subst, _∙_}
 use mathlib.Core.Bool.{Bool, true, false}
-use mathlib.Core.List.{List, [], _∷_, _++_}
+use mathlib.Core.List.{List}
 use mathlib.Core.Option.{some}
 use mathlib.Core.Logic.{_↔_, _⊎_, inl, inr}
 use native.Mathlib.Omega.{arith}
-use lib.ListN.{length, getD, drop, replicate}
+use lib.ListN.{length, getD, drop}
 use lib.Dec.{leb, ltb, eqb}
 use borrow.Author.Tests.{ltb-false, leb-true, le-leb, eqb-true, eq-eqb}
 use Rattle.minplus.specs.Search.{both-true}
 use Rattle.minplus.specs.Curve.{Curve, WellFormed, value}
-use Rattle.minplus.specs.Claim.{Claim, Claimed, Kind, Tightness, WellFormedClaim, atMost, bound, bounds, convolution, delay, due, equals, exactly, kindBy, maxX, result}
+use Rattle.minplus.specs.Claim.{Claim, Claimed, Kind, Tightness, WellFormedClaim, atMost, bound, bounds, convolution, delay, due, equals, exactly, maxX, result}
 use Rattle.minplus.specs.Conv.{conv, conv-below, conv-attained}
 use Rattle.minplus.specs.Horizon.{horizon, maxHorizon}
 use Rattle.minplus.specs.Verdict.{Record, Verdict, accepted, refutedAt, refutedByRate, notLeast, notJudged, recordOf, verdict, leftAt, rightAt, tried}
 use Rattle.minplus.specs.Meaning.{Meaning, Proper, Rule, Loose, Outpaced, well-formed-proper}
 use Rattle.minplus.specs.Exact.{verdict-exact, accepted-exactly, rate-exactly}
 use Rattle.minplus.specs.Delay.{Delayed, delay-means}
-use Rattle.curve.specs.Filled.{listOf}
 use Rattle.content.specs.declared.Refusal.{Refusal}
 use Rattle.content.specs.declared.Refusal.the-variants.{Torn, UnknownTag, OutOfOrder, TooMany, WrongVersion, CurveLength, CurvePeriod, TooManyUnits, CurveFalls, WrongClaim, NoSuchCurve, TooLarge, WrongEnd, NoRoom, BookTooLong}
 use Rattle.content.specs.declared.Stated.{Stated}
 use Rattle.content.specs.Layout.{kindIn, idIn, claimIn, third-in}
-use Rattle.field.specs.Fields.{tagBy, contentAt}
+use Rattle.field.specs.Fields.{contentAt}
 use Rattle.content.specs.Refusals.{numberOf, statedOf}
 use Rattle.field.specs.Steps.{maxClaims}
 use Rattle.book.specs.Reading.{Contents, Read, sound, refused, maxBytes, readBook}
-use Rattle.book.specs.Ground.{w8}
 use Rattle.book.specs.Sound.{sound-book, refused-inside}
 use Rattle.book.specs.Values.{curveNamed}
 use Rattle.numbers.specs.Numbers.{numberAt}

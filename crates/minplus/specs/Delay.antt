@@ -15,19 +15,19 @@
 --     bounded-exactly        some X is a bound exactly when f is not faster than g and some wait serves each tick;
 --                            deviation-exactly: exactly then there is a horizontal deviation
 --     gains-serve            a g that gains serves each tick
-use Prim.Native.Nat.{ℕ, zero, suc, _+_, _-_, _*_, _≤_, _<_, max}
-use mathlib.Core.Path.{_≡_, refl, sym, ap, subst, _∙_}
-use mathlib.Core.Bool.{Bool, true, false}
+use Prim.Native.Nat.{ℕ, suc, _+_, _-_, _*_, _≤_, _<_, max}
+use mathlib.Core.Path.{_≡_}
+use mathlib.Core.Bool.{Bool}
 use mathlib.Core.Logic.{_↔_, _⊎_, inl, inr}
 use mathlib.Core.Option.{Option, none, some}
 use native.Mathlib.Omega.{arith}
-use native.Mathlib.Nat.{eq-zero-or-pos, not-le-of-lt, le-refl}
-use lib.Dec.{leb, ltb}
+use native.Mathlib.Nat.{not-le-of-lt, le-refl}
+use lib.Dec.{leb}
 use borrow.Author.Tests.{le-ltb, leb-false, leb-true, ltb-false}
 use Rattle.minplus.specs.Search.{IsFirst, first-below, firstBelow, greatest, greatest-upper, nowhere, somewhere}
 use Rattle.minplus.specs.Curve.{Curve, Rising, value}
 use Rattle.minplus.specs.Claim.{Bound, Claim, Claimed, HorizontalDeviation, LeastWait, Tightness, WaitsAtMost, allowed, atMost, bounds, delay, exactly}
-use Rattle.minplus.specs.Horizon.{Slower, commonPeriod, horizon, maxHorizon}
+use Rattle.minplus.specs.Horizon.{commonPeriod, horizon, maxHorizon}
 use Rattle.minplus.specs.Meaning.{Loose, Rule}
 use Rattle.minplus.specs.Verdict.{accepted, byRate, notLeast, tried, verdict}
 use Rattle.minplus.specs.Rising.{NeverFalls, flat-from, gains-past, rising-exactly}

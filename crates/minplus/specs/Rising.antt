@@ -4,10 +4,10 @@
 --     NeverFalls F        F n <= F m for all n <= m
 --     rising-exactly      Rising f exactly when NeverFalls (value f)
 --     never-falls-by      it is enough that no tick is above the next one
---     flat-from           a curve that never falls and gains nothing is, from its rank on, its value there
+--     flat-from           a curve that never falls and gains nothing is nowhere above its value at its rank
 --     gains-past          one that gains is at x or above from some tick on, whatever x is
 use Prim.Native.Nat.{ℕ, zero, suc, _+_, _-_, _*_, _≤_, _<_}
-use mathlib.Core.Path.{_≡_, sym, ap, subst, _∙_}
+use mathlib.Core.Path.{_≡_, ap, _∙_}
 use mathlib.Core.Logic.{_↔_}
 use native.Mathlib.Omega.{arith}
 use native.Mathlib.Nat.{le-refl, mul-le-mul-left}
