@@ -66,6 +66,8 @@ static unsigned read_curve(const uint8_t *content, uint32_t length, struct curve
         over |= curve->values[i] > MAX_UNITS;
         falls |= i > 0 && curve->values[i] < curve->values[i - 1];
     }
+    /* At the seam, where one period meets the next. What passes 32 bits here is over the limit. */
+    falls |= curve->values[curve->rank] + curve->increment < curve->values[count - 1];
     return over ? ZURMAKIDA_REFUSED_OVER_LIMIT : falls ? ZURMAKIDA_REFUSED_VALUES_FALL : 0;
 }
 
@@ -403,6 +405,7 @@ static unsigned refuse_curve(uint64_t rank, uint64_t period, uint64_t increment,
         over |= values[i] > MAX_UNITS;
         falls |= i > 0 && values[i] < values[i - 1];
     }
+    falls |= values[rank] + increment < values[count - 1];
     return over ? ZURMAKIDA_REFUSED_OVER_LIMIT : falls ? ZURMAKIDA_REFUSED_VALUES_FALL : 0;
 }
 

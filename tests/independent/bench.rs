@@ -8,7 +8,7 @@ use crate::book::{Book, Curve, MOST_CLAIMS, MOST_CURVES, MOST_LISTED, MOST_X};
 use crate::dice::Dice;
 use crate::judge::{answer, decide, RECORD};
 use crate::law::{horizon, verdict, Verdict, MOST_HORIZON};
-use crate::make::{one_claim, steep_triple};
+use crate::make::{mended, one_claim, sound, steep_triple};
 use std::hint::black_box;
 use std::time::Instant;
 
@@ -22,15 +22,16 @@ const KINDS: [&str; 7] = [
     "exact_backlog",
 ];
 
-pub fn bench(name: &str) -> Option<Book> {
+/// The bytes of the book.
+pub fn bench(name: &str) -> Option<Vec<u8>> {
     if name == "worst" {
-        return Some(worst());
+        return Some(sound(&worst()));
     }
     if name == "largest" {
-        return Some(largest());
+        return Some(sound(&largest()));
     }
     let kind = KINDS.iter().position(|k| *k == name)?;
-    Some(small_claims(kind as u8 + 1))
+    Some(sound(&small_claims(kind as u8 + 1)))
 }
 
 /// Four triples in turn. Each tick n tries n+1 sums: 8,394,753 for a claim.
@@ -58,12 +59,12 @@ fn largest() -> Book {
             now += dice.below(3_000);
             now
         };
-        book.add(Curve {
+        book.add(mended(Curve {
             t: MOST_LISTED - 1 - k,
             d: 1 + k,
             c: k,
             values: (0..MOST_LISTED).map(&mut rise).collect(),
-        });
+        }));
     }
     for k in 0..MOST_CLAIMS as i64 {
         let (kind, left, right) = (4 + k % 4, k % 16, k / 16);

@@ -1,39 +1,44 @@
 //! The finite rule against the definitions of the table under "Claims", tried on ticks
-//! far beyond the horizon.
+//! far beyond the horizon; and kinds 4 and 5 against the delay of source document 003.
 //!
 //! beyond       small claims of each kind; the first disagreement ends the run
 //! defined, against    the definitions, written out again rather than taken from law.rs
 //! operation    kinds 1 to 3: the definition to 4*horizon+50, and R itself
 //! bound        kinds 4 to 7: the same, and how far a rate takes to break a bound
+//! least_wait   the least wait that serves a tick, by trying one after the other
+//! delay        kinds 4 and 5: X against the largest of the least waits
 
 use crate::book::{Book, Claim, Curve};
-use crate::check::codes;
+use crate::check::{codes, finished};
 use crate::dice::Dice;
 use crate::law::{horizon, lcm, pace, rank, table, value, verdict, Break, Verdict};
-use crate::make::one_claim;
+use crate::make::{one_claim, sound};
 use crate::text::{hex, words};
 use std::cmp::Ordering;
 use std::collections::BTreeMap;
 
 const MOST_TRIED: i64 = 120;
 
+#[derive(Default)]
+struct Seen {
+    codes: BTreeMap<(u8, u8), u64>,
+    delays: BTreeMap<&'static str, u64>,
+}
+
 pub fn beyond(seed: u64, count: u64) -> Result<String, String> {
-    let mut seen: BTreeMap<(u8, u8), u64> = BTreeMap::new();
+    let mut seen = Seen::default();
     for kind in 1..=7u8 {
         for index in 0..count {
             let mut dice = Dice::new(seed ^ u64::from(kind) << 56, index);
             let book = one_claim(&mut dice, kind, MOST_TRIED);
-            let claim = book.claims[0];
-            let verdict = verdict(&book, &claim);
-            let compared = match kind {
-                1..=3 => operation(&book, &claim, &verdict),
-                _ => bound(&book, &claim, &verdict),
-            };
-            compared.map_err(|what| report(kind, index, &book, &verdict, what))?;
-            *seen.entry((kind, verdict.code())).or_default() += 1;
+            sound(&book);
+            let verdict = verdict(&book, &book.claims[0]);
+            seen.compare(&book, &verdict)
+                .map_err(|what| report(kind, index, &book, &verdict, what))?;
+            *seen.codes.entry((kind, verdict.code())).or_default() += 1;
         }
     }
-    summary(&seen)
+    seen.summary()
 }
 
 fn report(kind: u8, index: u64, book: &Book, verdict: &Verdict, what: &str) -> String {
@@ -41,24 +46,43 @@ fn report(kind: u8, index: u64, book: &Book, verdict: &Verdict, what: &str) -> S
     format!("kind {kind}, claim {index}: {what}; judged: {judged}\nbook {bytes}\n")
 }
 
-fn summary(seen: &BTreeMap<(u8, u8), u64>) -> Result<String, String> {
-    let mut text = String::from("beyond the horizon, kind by code\n");
-    let mut missing = String::new();
-    for kind in 1..=7 {
-        text += &format!("  kind {kind}:");
-        for code in codes(kind).iter().filter(|code| **code != 5) {
-            let count = seen.get(&(kind, *code)).copied().unwrap_or(0);
-            text += &format!("  code {code} {count}");
+impl Seen {
+    fn compare(&mut self, book: &Book, verdict: &Verdict) -> Result<(), &'static str> {
+        let claim = &book.claims[0];
+        if claim.kind <= 3 {
+            return operation(book, claim, verdict);
+        }
+        bound(book, claim, verdict)?;
+        if claim.kind <= 5 {
+            let shown = delay(book, claim, verdict)?;
+            *self.delays.entry(shown).or_default() += 1;
+        }
+        Ok(())
+    }
+
+    fn summary(&self) -> Result<String, String> {
+        let mut text = String::from("beyond the horizon, kind by code\n");
+        let mut missing = Vec::new();
+        for kind in 1..=7 {
+            text += &format!("  kind {kind}:");
+            for code in codes(kind).iter().filter(|code| **code != 5) {
+                let count = self.codes.get(&(kind, *code)).copied().unwrap_or(0);
+                text += &format!("  code {code} {count}");
+                if count == 0 {
+                    missing.push(format!("kind {kind} code {code}"));
+                }
+            }
+            text += "\n";
+        }
+        text += "the largest of the least waits\n";
+        for shown in DELAYS {
+            let count = self.delays.get(shown).copied().unwrap_or(0);
+            text += &format!("  {count:7} {shown}\n");
             if count == 0 {
-                missing += &format!("not seen: kind {kind} code {code}\n");
+                missing.push(shown.into());
             }
         }
-        text += "\n";
-    }
-    if missing.is_empty() {
-        Ok(text)
-    } else {
-        Err(text + &missing)
+        finished(text, missing)
     }
 }
 
@@ -151,7 +175,7 @@ fn bound(book: &Book, claim: &Claim, verdict: &Verdict) -> Result<(), &'static s
         Verdict::ByRate if at_x.is_some_and(|(s, _, _)| s < horizon) => {
             Err("a tick below the horizon breaks")
         }
-        Verdict::ByRate => breaks_later(claim, f, g),
+        Verdict::ByRate => breaks_later(claim, f, g).map(|_| ()),
         Verdict::Accepted | Verdict::NotLeast if at_x.is_some() => Err("X is no bound"),
         Verdict::Accepted | Verdict::NotLeast if !gap_stays(claim, f, g) => Err("the gap closes"),
         Verdict::Accepted if exact && !fails_below => Err("X-1 is a bound as well"),
@@ -176,8 +200,9 @@ fn gap(claim: &Claim, f: &Curve, g: &Curve, s: i64) -> i64 {
     right - left
 }
 
-/// Each D ticks take the same from the gap, so it is below 0 after gap/loss+1 times D.
-fn breaks_later(claim: &Claim, f: &Curve, g: &Curve) -> Result<(), &'static str> {
+/// Each D ticks take the same from the gap, so it is below 0 after gap/loss+1 times D: at the tick
+/// given.
+fn breaks_later(claim: &Claim, f: &Curve, g: &Curve) -> Result<i64, &'static str> {
     let big_d = lcm(f.d, g.d);
     let s = f.t.max(g.t);
     let loss = gap(claim, f, g, s) - gap(claim, f, g, s + big_d);
@@ -186,7 +211,7 @@ fn breaks_later(claim: &Claim, f: &Curve, g: &Curve) -> Result<(), &'static str>
     }
     let far = s + (gap(claim, f, g, s) / loss + 1) * big_d;
     if gap(claim, f, g, far) < 0 {
-        Ok(())
+        Ok(far)
     } else {
         Err("no break where the rate must have made one")
     }
@@ -197,4 +222,88 @@ fn gap_stays(claim: &Claim, f: &Curve, g: &Curve) -> bool {
     let big_d = lcm(f.d, g.d);
     let s = f.t.max(g.t);
     (s..s + big_d).all(|s| gap(claim, f, g, s + big_d) >= gap(claim, f, g, s))
+}
+
+const EXACT_0: &str = "an exact delay of 0";
+const EXACT: &str = "an exact delay above 0";
+const BOUND: &str = "a delay bound that is the delay";
+const ABOVE: &str = "a delay bound above the delay";
+const EXACT_ABOVE: &str = "an exact delay claimed above the delay";
+const LONGER: &str = "a tick that waits longer than X";
+const NEVER: &str = "a tick that no wait serves";
+const LATER: &str = "a faster curve: a later tick that waits longer than X";
+
+const DELAYS: [&str; 8] = [
+    EXACT_0,
+    EXACT,
+    BOUND,
+    ABOVE,
+    EXACT_ABOVE,
+    LONGER,
+    NEVER,
+    LATER,
+];
+
+/// Source document 003, equation 7, on ticks: the least w with f(s) <= g(s+w). None where there is no
+/// such w: with c' = 0 no value after g(T'+d'-1) is above it.
+fn least_wait(f: &Curve, g: &Curve, s: i64) -> Option<i64> {
+    let mut w = 0;
+    while value(f, s) > value(g, s + w) {
+        if g.c == 0 && s + w >= g.t + g.d - 1 {
+            return None;
+        }
+        w += 1;
+    }
+    Some(w)
+}
+
+/// The largest, over the ticks up to `last`, of the least waits; none where some tick has none.
+fn largest_wait(f: &Curve, g: &Curve, last: i64) -> Option<i64> {
+    let mut largest = 0;
+    for s in 0..=last {
+        largest = largest.max(least_wait(f, g, s)?);
+    }
+    Some(largest)
+}
+
+/// No wait of at most X serves. Of a long X only the first waits are tried, and X itself: g never
+/// falls.
+fn waits_longer(f: &Curve, g: &Curve, s: i64, x: i64) -> bool {
+    let tried = (0..=x.min(10_000)).chain([x]);
+    tried.into_iter().all(|w| value(f, s) > value(g, s + w))
+}
+
+/// Which of DELAYS the claim shows.
+fn delay(book: &Book, claim: &Claim, verdict: &Verdict) -> Result<&'static str, &'static str> {
+    let f = &book.curves[claim.left as usize];
+    let g = &book.curves[claim.right as usize];
+    let x = claim.third;
+    let within = |s: i64| least_wait(f, g, s).is_some_and(|w| w <= x);
+    let largest = match verdict {
+        Verdict::RefutedAt((s, ..)) if !(0..*s).all(within) => {
+            return Err("a tick before the one named waits longer than X");
+        }
+        Verdict::RefutedAt((s, ..)) => {
+            return match least_wait(f, g, *s) {
+                None => Ok(NEVER),
+                Some(w) if w > x => Ok(LONGER),
+                Some(_) => Err("the tick named waits X at most"),
+            };
+        }
+        Verdict::ByRate => {
+            let s = breaks_later(claim, f, g)?;
+            let longer = waits_longer(f, g, s, x);
+            return longer.then_some(LATER).ok_or("no tick waits longer");
+        }
+        _ => largest_wait(f, g, 4 * horizon(book, claim) + 50).ok_or("a tick waits for ever")?,
+    };
+    match (verdict, claim.kind) {
+        (Verdict::Accepted, 5) if x != largest => Err("X is not the largest of the least waits"),
+        (Verdict::Accepted, 5) => Ok(if x == 0 { EXACT_0 } else { EXACT }),
+        (Verdict::Accepted, _) if x < largest => Err("some tick waits longer than X"),
+        (Verdict::Accepted, _) => Ok(if x == largest { BOUND } else { ABOVE }),
+        (Verdict::NotLeast, 5) if x > largest => Ok(EXACT_ABOVE),
+        (Verdict::NotLeast, 5) => Err("X is not above the largest of the least waits"),
+        _ => Err("a verdict that the kind does not have"),
+    }
 }

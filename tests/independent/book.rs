@@ -1,4 +1,5 @@
-//! Document 01, "The book" and "Refusal numbers": the layout, read and written.
+//! Document 01, "The book" and "Refusal numbers": the layout, read and written. With document 02's
+//! request A2 a curve may not fall at the seam either.
 //!
 //! Curve, Claim, Book   what a sound book holds, with document 01's letters
 //! Refusal              number, place, and which of the number's reasons it was
@@ -70,6 +71,7 @@ const CURVE_LENGTH: Fault = (6, "a curve's length isn't 8+4*(T+d)");
 const BIG_C: Fault = (8, "c over 1,000,000");
 const BIG_VALUE: Fault = (8, "a value over 1,000,000");
 const FALLS: Fault = (9, "values fall");
+pub const SEAM: Fault = (9, "the curve falls at the seam");
 const EMPTY: Fault = (10, "an empty claim");
 const KIND: Fault = (10, "unknown kind");
 const CLAIM_LENGTH: Fault = (10, "a claim's length");
@@ -82,7 +84,7 @@ const FOLLOWS: Fault = (13, "a byte follows the end");
 pub const ROOM: Fault = (14, "the buffer has too little room");
 const BYTES: Fault = (15, "over 32,768 bytes");
 
-pub const REASONS: [Fault; 28] = [
+pub const REASONS: [Fault; 29] = [
     FEW,
     PAST,
     TAG,
@@ -100,6 +102,7 @@ pub const REASONS: [Fault; 28] = [
     BIG_C,
     BIG_VALUE,
     FALLS,
+    SEAM,
     EMPTY,
     KIND,
     CLAIM_LENGTH,
@@ -218,6 +221,10 @@ fn curve(content: &[u8]) -> Result<Curve, Fault> {
     if values.windows(2).any(|w| w[1] < w[0]) {
         return Err(FALLS);
     }
+    // f(T+d), the first value of the next period, is f(T)+c.
+    if values[t as usize] + c < values[(t + d - 1) as usize] {
+        return Err(SEAM);
+    }
     Ok(Curve { t, d, c, values })
 }
 
@@ -264,7 +271,7 @@ fn end(content: &[u8], follows: &[u8]) -> Result<(), Fault> {
 }
 
 /// High byte first.
-fn number(bytes: &[u8]) -> i64 {
+pub fn number(bytes: &[u8]) -> i64 {
     bytes.iter().fold(0, |n, b| n * 256 + i64::from(*b))
 }
 

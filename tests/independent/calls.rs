@@ -9,7 +9,8 @@ use crate::book::{read, Book, Claim, Curve};
 use crate::book::{MOST_BYTES, MOST_CLAIMS, MOST_CURVES, MOST_LISTED, MOST_UNITS, MOST_X};
 use crate::cases::{case, write_lent, write_numbers, Lent, FAR_BITS, SENT};
 use crate::dice::Dice;
-use crate::make::{many_claims, small_book, small_curve};
+use crate::make::{many_claims, mended, small_book, small_curve, sound};
+use crate::seam::{edge_of_seam, let_fall, long_list, over_limit};
 use crate::writer::{call, faults, Call, State};
 use std::io::{self, Write};
 
@@ -34,8 +35,10 @@ pub fn sequences(seed: u64, index: u64) -> Vec<Sequence> {
     }
 }
 
-/// Every so many sequences one lends far more than the low bits of the length say.
+/// Every so many sequences one lends far more than the low bits of the length say, and one is about
+/// the seam.
 const FAR: u64 = 500;
+const SEAM: u64 = 100;
 
 fn made(seed: u64, index: u64) -> Sequence {
     // A seed of its own: the cases have the indices of the seed itself.
@@ -43,6 +46,7 @@ fn made(seed: u64, index: u64) -> Sequence {
     let mut script = Script::new(&mut dice);
     let label = match script.dice.below(1_000) {
         _ if index % FAR == FAR - 1 => script.far(index / FAR),
+        _ if index % SEAM == 1 => script.seam(),
         0..=4 => script.largest(),
         5..=9 => script.full(),
         10..=199 => script.forged(),
@@ -61,7 +65,7 @@ fn made(seed: u64, index: u64) -> Sequence {
 fn again(seed: u64, index: u64, book: &Book) -> Sequence {
     let mut dice = Dice::new(!seed, u64::MAX - index);
     let mut script = Script::new(&mut dice);
-    let bytes = book.bytes();
+    let bytes = sound(book);
     let more = script.dice.pick(&[0, 0, 0, 1, 50]);
     script.lend(bytes.len() + more);
     for call in calls(book) {
@@ -263,6 +267,7 @@ impl<'a> Script<'a> {
             let curve = limit_curve(self.dice, t, MOST_LISTED - t);
             book.add(curve);
         }
+        sound(&book);
         let x_only = !self.dice.once_in(4);
         while book.claims.len() < MOST_CLAIMS {
             let claim = sound_claim(self.dice, MOST_CURVES as u64);
@@ -330,6 +335,39 @@ impl<'a> Script<'a> {
         self.call(Call::Close);
         "a far longer buffer, a far longer list"
     }
+
+    /// A curve at the edge of the seam and one that falls there: before begin, in their turn, with
+    /// each fault that is tried before 9, with too little room, and as a 17th curve.
+    fn seam(&mut self) -> &'static str {
+        let edge = edge_of_seam(self.dice);
+        let mut low = edge.clone();
+        let_fall(self.dice, &mut low);
+        let mut over = low.clone();
+        over_limit(self.dice, &mut over);
+        let mut longer = low.clone();
+        longer.values.extend(low.values.last());
+        let long = long_list(self.dice);
+        let (edge, low) = (Call::of_curve(&edge), Call::of_curve(&low));
+        let size = edge.size() as usize;
+        let less = self.dice.pick(&[0, 1, size]);
+        self.lend(4 + 2 * size - less);
+        self.call(low.clone());
+        self.call(Call::Begin);
+        for curve in [&over, &longer, &long] {
+            self.call(Call::of_curve(curve));
+        }
+        for next in [&low, &edge, &low, &edge] {
+            self.call(next.clone());
+        }
+        let state = State {
+            curves: MOST_CURVES as u64,
+            ..State::of(self.state)
+        };
+        self.pass(state.number());
+        self.call(low);
+        self.call(edge);
+        "a curve at its seam"
+    }
 }
 
 /// A sound book: one of the cases' small ones, or one at the limits.
@@ -349,6 +387,7 @@ fn any_book(dice: &mut Dice) -> Book {
             book.claims.push(sound_claim(dice, curves));
         }
     }
+    sound(&book);
     book
 }
 
@@ -386,7 +425,7 @@ fn limit_curve(dice: &mut Dice, t: i64, d: i64) -> Curve {
     }
     let any = dice.below(MOST_UNITS);
     let c = dice.pick(&[0, 1, 255, 256, 65_536, any, any, MOST_UNITS - 1, MOST_UNITS]);
-    Curve { t, d, c, values }
+    mended(Curve { t, d, c, values })
 }
 
 /// Over so many curves; the numbers are 0 where there are none.
@@ -496,7 +535,7 @@ fn spoil_curve(dice: &mut Dice, next: &mut Call) {
         return;
     };
     let last = values.last().copied().unwrap_or(0);
-    match dice.below(12) {
+    match dice.below(14) {
         0 => {
             *period = 0;
             if dice.once_in(2) {
@@ -526,7 +565,8 @@ fn spoil_curve(dice: &mut Dice, next: &mut Call) {
             *increment = dice.pick(&[MOST_UNITS as u64 + 1, any]);
         }
         9 | 10 => large_value(dice, values),
-        _ => fall(dice, values),
+        11 => fall(dice, values),
+        _ => fall_at_seam(dice, *rank, increment, values),
     }
 }
 
@@ -567,6 +607,21 @@ fn fall(dice: &mut Dice, values: &mut [u32]) {
     if let Some(at) = place(dice, values.len().saturating_sub(1)) {
         let by = dice.pick(&[1, 1, 1, 700_000]);
         values[at] = values[at + 1].saturating_add(by);
+    }
+}
+
+/// The increment is one too small for what the period gains, or the last value one too large for it.
+/// With d = 1 there is no such fault.
+fn fall_at_seam(dice: &mut Dice, rank: u64, increment: &mut u64, values: &mut [u32]) {
+    let from = usize::try_from(rank).ok().and_then(|n| values.get_mut(n..));
+    let Some([first, .., last]) = from else {
+        return;
+    };
+    let gain = last.saturating_sub(*first);
+    if gain > 0 && dice.once_in(2) {
+        *increment = u64::from(gain) - 1;
+    } else {
+        *last = first.saturating_add(*increment as u32).saturating_add(1);
     }
 }
 

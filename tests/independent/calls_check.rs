@@ -7,10 +7,11 @@
 use crate::book::{join, read, Book, Field, END, MOST_CLAIMS, MOST_CURVES};
 use crate::calls::{sequences, Sequence, Step};
 use crate::cases::{Lent, FAR_BITS};
-use crate::check::{finished, take, take_number};
+use crate::check::{finished, take, take_number, Seams};
 use crate::header::take_said;
+use crate::seam::told_apart;
 use crate::text::hex;
-use crate::writer::{call, faults, faults_of, Call, Fault, State, NAMES};
+use crate::writer::{call, faults, faults_of, Call, Fault, State, NAMES, SEAM};
 use std::collections::{BTreeMap, BTreeSet};
 use std::io::Read;
 
@@ -28,6 +29,7 @@ struct Seen {
     forged: u64,
     /// The highest bits of the buffers' lengths.
     far: BTreeSet<u32>,
+    seams: Seams,
     books: u64,
     closed: u64,
     largest: u64,
@@ -229,11 +231,28 @@ impl Seen {
         } else {
             *self.taken.entry(name).or_default() += 1;
         }
+        self.seam(next, faults);
         if faults.iter().all(|f| f.number == 14) {
             let end = State::of(state).written + next.size() as u64;
             let rooms = self.rooms.entry(field_of(next)).or_default();
             rooms[0] += u64::from(length == end);
             rooms[1] += u64::from(length + 1 == end);
+        }
+    }
+
+    fn seam(&mut self, next: &Call, faults: &[Fault]) {
+        let is_seam = |f: &&Fault| (f.number, f.why) == SEAM;
+        let before = faults.iter().take_while(|f| !is_seam(f));
+        let numbers: Vec<u8> = before.map(|f| f.number).collect();
+        let falls = faults.iter().any(|f| is_seam(&f));
+        if numbers.iter().all(|number| *number == 14) {
+            let told = next.curve();
+            self.seams.readings.extend(told.iter().flat_map(told_apart));
+        }
+        // Where the list falls too, 9 would be due all the same.
+        if falls && !numbers.contains(&9) {
+            let after = faults.last().map(|f| &f.number).filter(|n| **n == 14);
+            self.seams.others.extend(numbers.first().or(after));
         }
     }
 
@@ -268,6 +287,7 @@ impl Seen {
         for bit in FAR_BITS.iter().filter(|bit| !self.far.contains(bit)) {
             missing.push(format!("a buffer of 2^{bit} bytes and more"));
         }
+        missing.extend(self.seams.missing(&[3, 4, 6, 7, 8, 14]));
         for (count, what) in [
             (self.closed, "a book closed and read back"),
             (self.largest, "a book of 16 curves and 256 claims"),
@@ -311,6 +331,7 @@ impl Seen {
             sum(1),
             self.pairs.len()
         );
+        text += &self.seams.summary();
         text += &format!(
             "books read back {}, closed {}, of 16 curves and 256 claims {}; written again {}\n",
             self.books, self.closed, self.largest, self.again

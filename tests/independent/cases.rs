@@ -8,7 +8,8 @@ use crate::book::{read, Book};
 use crate::dice::Dice;
 use crate::judge::{MOST_TICK, RECORD};
 use crate::make::{crossing_book, full_of, large_book, many_claims};
-use crate::make::{ranks_book, small_book, unjudged_book};
+use crate::make::{ranks_book, small_book, sound, unjudged_book};
+use crate::seam::seam_book;
 use crate::shared::shared_book;
 use crate::spoil::{long_book, rubbish, spoil_bytes, spoil_fields, spoil_twice};
 use std::io::{self, Write};
@@ -68,6 +69,7 @@ impl Lent {
 const TORN: u64 = 10;
 const LENGTHS: u64 = 150;
 const SHARED: u64 = 30;
+const SEAM: u64 = 20;
 const FAR: u64 = 250;
 const TOTALS: u64 = 300;
 
@@ -87,6 +89,9 @@ pub fn case(seed: u64, index: u64) -> Case {
         let book = shared_book(&mut dice, index / SHARED);
         return judged(&mut dice, SHARING, &book);
     }
+    if index % SEAM == 1 {
+        return seam_case(&mut dice, index / SEAM);
+    }
     if index % TOTALS == 2 {
         let book = full_of(&mut dice, CODES[(index / TOTALS % 3) as usize]);
         return judged(&mut dice, "256 in one total", &book);
@@ -103,7 +108,18 @@ pub fn case(seed: u64, index: u64) -> Case {
 fn judged(dice: &mut Dice, label: &'static str, book: &Book) -> Case {
     let more = dice.pick(&[0, 0, 1, 60]);
     let room = room(dice, book.claims.len() * RECORD + more);
-    Case::of(label, book.bytes(), Ask::Judge(Lent::all(room)))
+    Case::of(label, sound(book), Ask::Judge(Lent::all(room)))
+}
+
+/// Every third one is asked for a value, and so each of the ten ways of such a book in turn.
+fn seam_case(dice: &mut Dice, turn: u64) -> Case {
+    let book = seam_book(dice, turn);
+    let ask = match read(&book) {
+        Ok(sound) if turn % 3 == 0 => value_ask(dice, &listed(&sound)),
+        Err(_) if turn % 3 == 0 => value_ask(dice, &[]),
+        _ => ask(dice, &book),
+    };
+    Case::of("a curve at its seam", book, ask)
 }
 
 /// So far the lengths of far cases go beyond what their low bits say.
@@ -118,7 +134,7 @@ fn far_case(dice: &mut Dice, turn: u64) -> Case {
         let length = far + dice.index(exact) as u64;
         let room = room(dice, length.min(SENT as u64) as usize);
         let ask = Ask::Judge(Lent::long(room, length));
-        return Case::of("a far longer buffer", book.bytes(), ask);
+        return Case::of("a far longer buffer", sound(&book), ask);
     }
     let (label, ask) = if turn % 3 == 1 {
         let room = room(dice, exact);
@@ -127,7 +143,7 @@ fn far_case(dice: &mut Dice, turn: u64) -> Case {
         let ask = value_ask(dice, &listed(&book));
         ("a far longer book, asked for a value", ask)
     };
-    let bytes = book.bytes();
+    let bytes = sound(&book);
     let length = far + bytes.len() as u64;
     let book = Lent::long(bytes, length);
     Case { label, book, ask }
@@ -150,9 +166,9 @@ fn listed(book: &Book) -> Vec<i64> {
 fn torn(seed: u64, turn: u64) -> Vec<u8> {
     // An index that no case has, so that the torn book is one of its own.
     let mut dice = Dice::new(seed, u64::MAX - turn / LENGTHS);
-    let mut book = small_book(&mut dice, false).bytes();
+    let mut book = sound(&small_book(&mut dice, false));
     while book.len() < 60 || book.len() as u64 >= LENGTHS {
-        book = small_book(&mut dice, false).bytes();
+        book = sound(&small_book(&mut dice, false));
     }
     book.truncate((turn % LENGTHS) as usize);
     book
@@ -160,22 +176,22 @@ fn torn(seed: u64, turn: u64) -> Vec<u8> {
 
 fn any_book(dice: &mut Dice) -> (&'static str, Vec<u8>) {
     match dice.below(1_000) {
-        0..=2 => ("a horizon about 4,096", large_book(dice).bytes()),
-        3..=17 => ("a horizon above 4,096", unjudged_book(dice).bytes()),
-        18..=20 => ("many claims", many_claims(dice).bytes()),
+        0..=2 => ("a horizon about 4,096", sound(&large_book(dice))),
+        3..=17 => ("a horizon above 4,096", sound(&unjudged_book(dice))),
+        18..=20 => ("many claims", sound(&many_claims(dice))),
         21..=28 => ("long", long_book(dice)),
-        29..=43 => ("a crossing at the limit", crossing_book(dice).bytes()),
+        29..=43 => ("a crossing at the limit", sound(&crossing_book(dice))),
         44..=59 => ("rubbish", rubbish(dice)),
         60..=139 => {
             let edges = dice.once_in(8);
-            let book = small_book(dice, edges).bytes();
+            let book = sound(&small_book(dice, edges));
             ("bytes spoiled", spoil_bytes(dice, book))
         }
         140..=339 => ("a field spoiled", spoil_fields(dice)),
         340..=419 => ("several faults", spoil_twice(dice)),
-        420..=519 => ("edges", small_book(dice, true).bytes()),
-        520..=534 => ("ranks at the limit", ranks_book(dice).bytes()),
-        _ => ("sound", small_book(dice, false).bytes()),
+        420..=519 => ("edges", sound(&small_book(dice, true))),
+        520..=534 => ("ranks at the limit", sound(&ranks_book(dice))),
+        _ => ("sound", sound(&small_book(dice, false))),
     }
 }
 

@@ -3,11 +3,12 @@
 //! check    reads one answer for each case; the first difference ends the run
 //! Seen     counts of refusals by reason, verdicts by kind and code, buffers by length, and more
 
-use crate::book::{read, Refusal, MOST_CLAIMS, REASONS};
+use crate::book::{read, Refusal, MOST_CLAIMS, REASONS, SEAM};
 use crate::cases::{case, Ask, Case, Lent, CODES, FAR_BITS, SHARING};
 use crate::header::{record, take_record, take_said, Parts};
 use crate::judge::{answer, ask_value, decide, refusal_number, room_enough, Totals, RECORD};
 use crate::law::{horizon, pace, Verdict};
+use crate::seam::{falls_there, held_at, told_apart, READINGS};
 use crate::shared::{RATES, TARGETS};
 use crate::text::{hex, words};
 use std::cmp::Ordering;
@@ -37,8 +38,37 @@ struct Seen {
     sharing: BTreeSet<(u8, i64, Ordering)>,
     /// What was long, and the highest bit of its length.
     far: BTreeSet<(&'static str, u32)>,
+    seams: Seams,
     values: u64,
     asked_refusals: BTreeMap<(u8, bool), u64>,
+    asked_seams: u64,
+}
+
+/// Wrong readings of the seam that some curve has told apart, and the refusals of curves that fall
+/// there with something else wrong, with which the rule comes before or after.
+#[derive(Default)]
+pub struct Seams {
+    pub readings: BTreeSet<&'static str>,
+    pub others: BTreeSet<u8>,
+}
+
+impl Seams {
+    pub fn missing(&self, others: &[u8]) -> Vec<String> {
+        let readings = READINGS.iter().map(|(name, _)| *name);
+        let untold = readings.filter(|name| !self.readings.contains(name));
+        let alone = others.iter().filter(|number| !self.others.contains(number));
+        let untold = untold.map(|name| format!("a curve that tells apart at the seam: {name}"));
+        let alone = alone.map(|number| format!("a fall at the seam with refusal {number}"));
+        untold.chain(alone).collect()
+    }
+
+    pub fn summary(&self) -> String {
+        format!(
+            "the seam: {} wrong readings told apart, {} refusals with a fall there\n",
+            self.readings.len(),
+            self.others.len()
+        )
+    }
 }
 
 /// The summary, or the report of the first difference.
@@ -184,6 +214,7 @@ fn value_case(
 ) -> Result<(), String> {
     let outcome = ask_value(&case.book.bytes, curve, tick);
     seen.value(&outcome);
+    seen.asked_seams += u64::from(outcome.as_ref().is_err_and(|r| (r.number, r.why) == SEAM));
     let (due_refusal, due_value) = match &outcome {
         Ok(value) => (0, *value),
         Err(refusal) => (refusal_number(refusal), 0),
@@ -218,6 +249,7 @@ impl Seen {
 
     fn judge(&mut self, case: &Case, decision: &Result<Vec<(u8, Verdict)>, Refusal>, room: usize) {
         self.judged += 1;
+        self.seam(&case.book.bytes);
         let verdicts = match decision {
             Ok(verdicts) => verdicts,
             Err(refusal) => return self.refuse(refusal),
@@ -241,6 +273,26 @@ impl Seen {
         }
         if case.label == SHARING {
             self.share(&case.book.bytes);
+        }
+    }
+
+    fn seam(&mut self, bytes: &[u8]) {
+        let refusal = match read(bytes) {
+            Ok(book) => {
+                let told = book.curves.iter().flat_map(told_apart);
+                return self.seams.readings.extend(told);
+            }
+            Err(refusal) => refusal,
+        };
+        let held = held_at(bytes, refusal.place);
+        match held.filter(falls_there) {
+            Some(curve) if (refusal.number, refusal.why) == SEAM => {
+                self.seams.readings.extend(told_apart(&curve));
+            }
+            Some(_) => {
+                self.seams.others.insert(refusal.number);
+            }
+            None => {}
         }
     }
 
@@ -295,6 +347,7 @@ impl Seen {
             }
         }
         missing.extend(self.missing_limits());
+        missing.extend(self.seams.missing(&[1, 3, 4, 6, 7, 8]));
         missing.extend(self.missing_values());
         missing
     }
@@ -335,6 +388,9 @@ impl Seen {
         if !self.asked_refusals.keys().any(|(_, asked)| !asked) {
             missing.push("a value query of a bad book".into());
         }
+        if self.asked_seams == 0 {
+            missing.push("a value query of a book with a fall at the seam".into());
+        }
         missing
     }
 
@@ -368,6 +424,7 @@ impl Seen {
              {SHARING}: {} kinds with horizons and rates\n",
             self.sharing.len()
         );
+        text += &self.seams.summary();
         text + &self.value_summary()
     }
 

@@ -1,8 +1,8 @@
 //! The books of books/ with the lines due for each. For W1 to W12, for the two zero sums
 //! and for the empty input the lines are document 01's own, written out here; the judge
 //! of this program has to give the same. So are those of `ranks`, `slower_ranks`,
-//! `before_the_rank` and `shared_divisors`, worked out by hand, and of the refused books;
-//! those of `mixed` and `full` are this program's.
+//! `before_the_rank` and `shared_divisors`, worked out by hand, and of the refused books,
+//! of which `seam` has the curve of document 02; those of `mixed` and `full` are this program's.
 
 use crate::book::{Book, Curve, MOST_CLAIMS};
 use crate::law::{horizon, value};
@@ -144,11 +144,21 @@ fn slower_ranks() -> Book {
     book(curves, &claims)
 }
 
-/// f is 0 before its rank and large from tick T+d-1 on: with f(T) in the least over 0 <= t < T, N
-/// would be above the limit.
+/// f is 12,276 times n/3 rounded down, with rank 2, and g is 4,093*n. A is 0, the least over
+/// 0 <= t < T is -4,093 and c'*d - c*d' is 3: N is 4,093 and the horizon 4,096. With f(T) in the
+/// least it would be -8,186, and N 8,186.
 fn before_the_rank() -> Book {
-    let f = curve(2, 2, 0, &[0, 0, 0, 4093]);
-    book(vec![f, line(0, 1, 1, 0), line(0, 1, 0, 0)], &[(3, 0, 1, 2)])
+    let f = curve(2, 3, 12_276, &[0, 0, 0, 12_276, 12_276]);
+    let curves = vec![f, line(0, 1, 4_093, 0), line(0, 1, 0, 0)];
+    book(curves, &[(3, 0, 1, 2)])
+}
+
+/// A flat 10 on the vendor's curve of document 02, which reads 0, 10, 1, 11 and so falls at its seam.
+/// By kind 5 alone 19 would be the exact delay, as g(18) = 9 and no later value is below 10; but no
+/// tick waits longer than 1.
+fn seam() -> Book {
+    let curves = vec![line(0, 1, 0, 10), curve(0, 2, 1, &[0, 10])];
+    book(curves, &[(5, 0, 1, 19)])
 }
 
 const ACCEPTED: &str = "accepted";
@@ -292,7 +302,7 @@ pub fn examples() -> Result<Vec<Example>, String> {
     let four = "claim 0 accepted\nclaim 1 accepted\nclaim 2 accepted\nclaim 3 accepted\n\
                 total 4 accepted 4 refuted 0 unjudged 0\ncertified yes\n";
     all.push(("slower_ranks", slower_ranks().bytes(), four.into()));
-    let at_3 = refuted("at 3 left 1 right 0");
+    let at_3 = refuted("at 3 left 4093 right 0");
     all.push(("before_the_rank", before_the_rank().bytes(), at_3));
     let (shared, rows) = shared_divisors();
     all.push(("shared_divisors", shared.bytes(), rows_text(&rows)));
@@ -301,6 +311,8 @@ pub fn examples() -> Result<Vec<Example>, String> {
     all.push(("torn", W8[..50].to_vec(), "refused 1 at 46\n".into()));
     let falls = book(vec![a(), curve(1, 1, 1, &[4, 0])], &[]);
     all.push(("falls", falls.bytes(), "refused 9 at 23\n".into()));
+    // The vendor's curve stands at byte 19: 4 of the version and 15 of the flat one before it.
+    all.push(("seam", seam().bytes(), "refused 9 at 19\n".into()));
     all.push(("long", vec![0x10; 32_769], "refused 15 at 0\n".into()));
     for (name, book) in [("mixed", mixed()), ("full", full())] {
         let bytes = book.bytes();
@@ -336,6 +348,10 @@ fn stated_facts() -> Result<(), String> {
         ("W6's horizon is 6", of(6) == 6),
         ("W8 in full", stated[7].1.bytes() == W8),
         ("the horizons of shared_divisors", horizons_are_stated()),
+        ("the horizon of before_the_rank is 4,096", {
+            let book = before_the_rank();
+            horizon(&book, &book.claims[0]) == 4_096
+        }),
     ];
     match facts.iter().find(|(_, holds)| !holds) {
         Some((fact, _)) => Err(format!("not so: {fact}")),

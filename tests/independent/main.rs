@@ -3,12 +3,13 @@
 //! book.rs      the layout, read and written        law.rs       values, horizons, verdicts
 //! judge.rs     the entries' answers                text.rs      the program's lines
 //! make.rs      sound books                         spoil.rs     spoiled ones
-//! shared.rs    periods that share divisors         header.rs    what the header for C says
+//! shared.rs    periods that share divisors         seam.rs      curves at their seam
 //! cases.rs     the cases and their form            check.rs     answers compared
 //! writer.rs    the writer's answers and state      calls.rs     sequences of its calls
 //! calls_check.rs   their answers compared, and every byte
 //! beyond.rs    the rule against the definitions    examples.rs  the books of books/
-//! bench.rs     books to measure with               dice.rs      the fixed generator
+//! bench.rs     books to measure with               header.rs    what the header for C says
+//! dice.rs      the fixed generator
 
 mod bench;
 mod beyond;
@@ -23,6 +24,7 @@ mod header;
 mod judge;
 mod law;
 mod make;
+mod seam;
 mod shared;
 mod spoil;
 mod text;
@@ -177,5 +179,5 @@ fn time(turns: &str) -> Result<(), String> {
 
 fn bench(name: &str) -> Result<(), String> {
     let book = bench::bench(name).ok_or(format!("no such book: {name}"))?;
-    io::stdout().write_all(&book.bytes()).map_err(failed)
+    io::stdout().write_all(&book).map_err(failed)
 }

@@ -11,8 +11,11 @@
 //! unjudged_book    a horizon above 4,096, cheap for any judge
 //! one_claim        a book of one small claim of a given kind
 //! steep_triple     f, g and their convolution, with T+T'+2*2,021 as the horizon
+//! cost             what a judge of a book adds or compares at most
+//! rise, mended     what a period's values gain; the curve with no smaller increment
+//! sound            the bytes of a book, which has to be read as it was made
 
-use crate::book::{Book, Claim, Curve};
+use crate::book::{read, Book, Claim, Curve};
 use crate::book::{MOST_CLAIMS, MOST_CURVES, MOST_LISTED, MOST_UNITS, MOST_X};
 use crate::dice::Dice;
 use crate::law::{bound_break, due, gcd, horizon, lcm, rank, sides, table, verdict, MOST_HORIZON};
@@ -96,8 +99,15 @@ pub fn full_of(dice: &mut Dice, codes: &[u8]) -> Book {
     }
 }
 
+/// Else this program stops: what is said to be sound and isn't would leave the judge untried.
+pub fn sound(book: &Book) -> Vec<u8> {
+    let bytes = book.bytes();
+    assert_eq!(read(&bytes).as_ref(), Ok(book));
+    bytes
+}
+
 /// Additions or comparisons that a judge of this book makes at most.
-fn cost(book: &Book) -> i64 {
+pub fn cost(book: &Book) -> i64 {
     let one = |claim| match (horizon(book, claim), claim.kind) {
         (h, _) if h > MOST_HORIZON => 0,
         (h, 3) => h * h / 2,
@@ -221,7 +231,7 @@ impl<'a> Maker<'a> {
         let (d, e) = self
             .dice
             .pick(&[(2, 3), (3, 2), (3, 4), (4, 3), (3, 5), (2, 5)]);
-        let pace = self.dice.below(3);
+        let pace = self.dice.between(1, 3);
         let (f, g) = late_pair(t, d, e, pace);
         let (left, right) = (self.book.add(f), self.book.add(g));
         let x = self.dice.below(2);
@@ -263,20 +273,40 @@ pub fn shuffled(dice: &mut Dice, mut book: Book) -> Book {
     book
 }
 
-/// Rank up to 5, period up to 4; some fall where one period meets the next.
+/// What the values gain from f(T) to f(T+d-1). With a smaller c the curve falls at the seam.
+pub fn rise(f: &Curve) -> i64 {
+    f.values[(f.t + f.d - 1) as usize] - f.values[f.t as usize]
+}
+
+/// The curve itself where it does not fall at the seam, else with the least c with which it does not.
+pub fn mended(mut f: Curve) -> Curve {
+    f.c = f.c.max(rise(&f));
+    f
+}
+
+/// Rank up to 5, period up to 4. Many have just the increment that their period's values gain, and
+/// some stay at f(T) for ever.
 pub fn small_curve(dice: &mut Dice) -> Curve {
     let t = if dice.once_in(3) { 0 } else { dice.below(6) };
     let d = dice.between(1, 4);
     let steep = dice.below(5);
     let start = dice.pick(&[0, 0, 1, 5]);
     let values = rising(dice, t + d, start, steep);
-    let rise = values[(t + d - 1) as usize] - values[t as usize];
-    let c = match dice.below(6) {
-        0 => 0,
-        1 => dice.below(9),
-        _ => rise + dice.below(3),
-    };
-    Curve { t, d, c, values }
+    let mut curve = Curve { t, d, c: 0, values };
+    let more = dice.below(3);
+    match dice.below(6) {
+        0 => stay(&mut curve),
+        1 => curve.c = rise(&curve).max(dice.below(9)),
+        _ => curve.c = rise(&curve) + more,
+    }
+    curve
+}
+
+/// f(T) from T on.
+fn stay(f: &mut Curve) {
+    let first = f.values[f.t as usize];
+    f.values[f.t as usize..].fill(first);
+    f.c = 0;
 }
 
 fn rising(dice: &mut Dice, count: i64, start: i64, steep: i64) -> Vec<i64> {
@@ -289,11 +319,11 @@ fn rising(dice: &mut Dice, count: i64, start: i64, steep: i64) -> Vec<i64> {
     values
 }
 
-/// Curves at the limits: zero, 256 listed values, 1,000,000, a fall after each period.
+/// Curves at the limits: zero, 256 listed values, 1,000,000, the least increment there is.
 fn edge_curve(dice: &mut Dice) -> Curve {
     let mut curve = small_curve(dice);
     let last = curve.values.len() - 1;
-    match dice.below(9) {
+    mended(match dice.below(9) {
         0 => line(curve.t, curve.d, 0, 0),
         1 => line(0, 1, 0, 0),
         2 => {
@@ -328,7 +358,7 @@ fn edge_curve(dice: &mut Dice) -> Curve {
             curve.values[last] = MOST_UNITS;
             curve
         }
-    }
+    })
 }
 
 /// f(n) = start + pace*n.
@@ -338,17 +368,27 @@ pub fn line(t: i64, d: i64, pace: i64, start: i64) -> Curve {
     Curve { t, d, c, values }
 }
 
-/// Gives both the pace k/gcd(d,d') of the multiples that suit both periods.
+/// Gives both the pace k/gcd(d,d') of the multiples that suit both periods: the least with which
+/// neither falls at its seam, or a little more; some stay at f(T) and g(T') first, so that it can be
+/// 0. Leaves both alone where an increment would be too large.
 fn same_pace(dice: &mut Dice, f: &mut Curve, g: &mut Curve) {
-    let k = dice.below(5);
+    if dice.once_in(4) {
+        stay(f);
+        stay(g);
+    }
     let common = gcd(f.d, g.d);
-    f.c = k * f.d / common;
-    g.c = k * g.d / common;
+    let least = |f: &Curve| (rise(f) * common + f.d - 1) / f.d;
+    let k = least(f).max(least(g)) + dice.pick(&[0, 0, 1, 2]);
+    let (c, other) = (k * f.d / common, k * g.d / common);
+    if c.max(other) <= MOST_UNITS {
+        (f.c, g.c) = (c, other);
+    }
 }
 
 /// For coprime d and e, f is 1 above its line in the last place of each period and g is
 /// on its line only in the first place. They meet at T-1 modulo d*e: before f's first
-/// period, where f is not raised, and at the last tick below max(T,T')+D.
+/// period, where f is not raised, and at the last tick below max(T,T')+D. The pace is at least 1,
+/// else both would fall at the seam; with 1 neither has more than it needs there.
 fn late_pair(t: i64, d: i64, e: i64, pace: i64) -> (Curve, Curve) {
     let mut f = line(t, d, pace, 0);
     f.values[(t + d - 1) as usize] += 1;
@@ -390,12 +430,13 @@ pub fn repeats(values: &[i64], t: i64, p: i64) -> bool {
     (t..values.len() - p).all(|n| values[n + p] - values[n] == gain)
 }
 
-/// The curve of rank t and period p with these values, if it is within the limits.
+/// The curve of rank t and period p with these values, if it is within the limits. The next period
+/// begins with values[t+p], so that value may not be below the one before it either.
 pub fn form(values: &[i64], t: i64, p: i64) -> Option<Curve> {
     let (first, next) = (t as usize, (t + p) as usize);
     let c = values[next] - values[first];
     let listed = &values[..next];
-    let rises = listed.windows(2).all(|w| w[0] <= w[1]);
+    let rises = values[..=next].windows(2).all(|w| w[0] <= w[1]);
     let within = (0..=MOST_UNITS).contains(&c) && listed[next - 1] <= MOST_UNITS;
     (rises && within && t + p <= MOST_LISTED).then(|| Curve {
         t,
@@ -405,8 +446,18 @@ pub fn form(values: &[i64], t: i64, p: i64) -> Option<Curve> {
     })
 }
 
+/// The curve with one change that lets it fall nowhere.
+fn nearly(dice: &mut Dice, h: Curve) -> Curve {
+    loop {
+        let near = changed(dice, h.clone());
+        if rise(&near) <= near.c {
+            return near;
+        }
+    }
+}
+
 /// The curve with one change: a value, the increment, the rank or the period.
-fn nearly(dice: &mut Dice, mut h: Curve) -> Curve {
+fn changed(dice: &mut Dice, mut h: Curve) -> Curve {
     let last = h.values.len() - 1;
     match dice.below(6) {
         0 => {
@@ -565,12 +616,14 @@ pub fn crossing_book(dice: &mut Dice) -> Book {
         let (f, g, mut h) = (small_curve(dice), small_curve(dice), small_curve(dice));
         // No value of f or g is 0, so h(0) = 0 is wrong.
         h.values[0] = 0;
+        let h = mended(h);
         let mut g = raised(g, 0, 1);
         // A steep rise after tick 0 makes that tick the lowest before T.
         let (late, steep) = (f.t.min(1), dice.pick(&[0, 0, 30]));
         let f = raised(raised(f, 0, 1), late, steep);
         // At least one unit a tick faster, so that one unit more moves N by one at most.
         g.c = (f.c / f.d + dice.between(2, 4)) * g.d + dice.below(g.d);
+        let g = mended(g);
         let target = dice.pick(&[MOST_HORIZON, MOST_HORIZON + 1]);
         let at = |high: i64| crossing_claim(kind, &raised(f.clone(), f.t, high), &g, &h);
         let far = |high: i64| horizon(&at(high), &at(high).claims[0]);
@@ -619,7 +672,7 @@ fn least_from(low: i64, high: i64, enough: impl Fn(i64) -> bool) -> i64 {
 
 fn far_bound(dice: &mut Dice, book: &mut Book, kind: u8, target: i64) {
     let (d, e) = dice.pick(&[(61, 67), (67, 61), (63, 64), (59, 67)]);
-    let pace = dice.below(3);
+    let pace = dice.between(1, 3);
     let (mut f, g) = late_pair(target - d * e, d, e, pace);
     let x = match dice.below(4) {
         0 => 0,

@@ -6,7 +6,7 @@
 //! rubbish         bytes with little sense
 //! long_book       lengths of 32,767 to 70,000
 
-use crate::book::{join, Book, Field, CLAIM, CURVE, END, VERSION};
+use crate::book::{join, number, Book, Field, CLAIM, CURVE, END, VERSION};
 use crate::dice::Dice;
 use crate::make::{small_book, small_curve};
 
@@ -120,7 +120,7 @@ const TOO_LARGE: [u32; 4] = [1_000_001, 0x0100_0000, 0x8000_0000, u32::MAX];
 fn curve_fault(dice: &mut Dice, field: &mut Field) {
     let content = &mut field.content;
     let words = content.len().saturating_sub(8) / 4;
-    match dice.below(9) {
+    match dice.below(11) {
         0 => content.truncate(dice.index(8)),
         1 => put(content, 2, &[0, 0]),
         2 => long_list(dice, content),
@@ -139,6 +139,7 @@ fn curve_fault(dice: &mut Dice, field: &mut Field) {
             let at = 8 + 4 * dice.index(words);
             put(content, at, &dice.pick(&TOO_LARGE).to_be_bytes());
         }
+        8 | 9 => seam_fault(dice, content),
         _ if words > 1 => {
             let at = 8 + 4 * dice.index(words - 1);
             put(content, at, &900_000u32.to_be_bytes());
@@ -146,6 +147,26 @@ fn curve_fault(dice: &mut Dice, field: &mut Field) {
         _ => content.truncate(7),
     }
     field.settle();
+}
+
+/// c is one less than f(T+d-1)-f(T), or f(T+d-1) is one more than f(T)+c. With d = 1 there is no such
+/// fault.
+fn seam_fault(dice: &mut Dice, content: &mut [u8]) {
+    let number_at = |at: usize, size: usize| content.get(at..at + size).map(number);
+    let head = (number_at(0, 2), number_at(2, 2), number_at(4, 4));
+    let (Some(t), Some(d), Some(c)) = head else {
+        return;
+    };
+    let place = |n: i64| 8 + 4 * n.max(0) as usize;
+    let last = place(t + d - 1);
+    let (Some(low), Some(high)) = (number_at(place(t), 4), number_at(last, 4)) else {
+        return;
+    };
+    if d > 1 && dice.once_in(2) {
+        put(content, last, &((low + c + 1) as u32).to_be_bytes());
+    } else if low < high {
+        put(content, 4, &((high - low - 1) as u32).to_be_bytes());
+    }
 }
 
 /// T+d = 257, with 257 values or with as many as before.

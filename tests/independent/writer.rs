@@ -123,6 +123,33 @@ impl Call {
         }
     }
 
+    /// f(n) of a curve, if it is listed.
+    fn listed_at(&self, n: u128) -> Option<u128> {
+        match self {
+            Call::Curve { values, .. } if n < self.listed() => {
+                let value = usize::try_from(n).ok().and_then(|n| values.get(n));
+                Some(value.copied().unwrap_or(0).into())
+            }
+            _ => None,
+        }
+    }
+
+    /// f(T)+c is below f(T+d-1), where both are listed.
+    fn falls_at_seam(&self) -> bool {
+        let Call::Curve {
+            rank, increment, ..
+        } = self
+        else {
+            return false;
+        };
+        let last = self.due().checked_sub(1);
+        let first = self.listed_at(u128::from(*rank));
+        match (first, last.and_then(|last| self.listed_at(last))) {
+            (Some(first), Some(last)) => first + u128::from(*increment) < last,
+            _ => false,
+        }
+    }
+
     /// Of a call that is taken: all its numbers are within the limits.
     fn field(&self) -> Field {
         match self {
@@ -195,6 +222,7 @@ const MORE: Reason = (6, "more than T+d values");
 const BIG_C: Reason = (8, "c over 1,000,000");
 const BIG_VALUE: Reason = (8, "a value over 1,000,000");
 const FALLS: Reason = (9, "values fall");
+pub const SEAM: Reason = (9, "the curve falls at the seam");
 const KIND_0: Reason = (10, "kind 0");
 const KIND_8: Reason = (10, "a kind above 7");
 const LEFT: Reason = (11, "left names no curve");
@@ -205,9 +233,9 @@ const ROOM: Reason = (14, "too few bytes remain");
 const ROOM_X: Reason = (14, "too few bytes remain, with an X");
 
 const BEGIN_REASONS: [Reason; 5] = [ABOVE, FAR, CLOSED, BEGUN, ROOM];
-const CURVE_REASONS: [Reason; 14] = [
+const CURVE_REASONS: [Reason; 15] = [
     ABOVE, FAR, CLOSED, NOT_BEGUN, LATE, CURVES, NO_PERIOD, LONG_LIST, FEWER, MORE, BIG_C,
-    BIG_VALUE, FALLS, ROOM,
+    BIG_VALUE, FALLS, SEAM, ROOM,
 ];
 const CLAIM_REASONS: [Reason; 13] = [
     ABOVE, FAR, CLOSED, NOT_BEGUN, CLAIMS, KIND_0, KIND_8, LEFT, RIGHT, RESULT, BIG_X, ROOM, ROOM_X,
@@ -298,6 +326,7 @@ fn curve_faults(call: &Call, state: &State) -> Vec<Reason> {
         (*increment > most, BIG_C),
         (over, BIG_VALUE),
         (falls, FALLS),
+        (call.falls_at_seam(), SEAM),
     ])
 }
 
