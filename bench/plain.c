@@ -1,6 +1,6 @@
-/* The judge and the writer of document 01 in straightforward C: what the proved ones are timed against and compared
-   with. The entries are those of the header, with plain_ before each name. Horizons and crossings are of 64 bits with a
-   sign; tables hold 32 bits, as a value at a tick of at most 4,096 does. */
+/* The judge and the writer of document 01, with document 02's request A2, in straightforward C: what the proved ones
+   are timed against and compared with. The entries are those of the header, with plain_ before each name. Horizons and
+   crossings are of 64 bits with a sign; tables hold 32 bits, as a value at a tick of at most 4,096 does. */
 #ifndef judge
 #define judge plain_judge
 #define curve_value plain_curve_value
@@ -66,7 +66,7 @@ static unsigned read_curve(const uint8_t *content, uint32_t length, struct curve
         over |= curve->values[i] > MAX_UNITS;
         falls |= i > 0 && curve->values[i] < curve->values[i - 1];
     }
-    /* At the seam, where one period meets the next. What passes 32 bits here is over the limit. */
+    /* at the seam of two periods; a sum past 32 bits has an increment over the limit */
     falls |= curve->values[curve->rank] + curve->increment < curve->values[count - 1];
     return over ? ZURMAKIDA_REFUSED_OVER_LIMIT : falls ? ZURMAKIDA_REFUSED_VALUES_FALL : 0;
 }

@@ -8,7 +8,7 @@ use crate::book::{read, Book};
 use crate::dice::Dice;
 use crate::judge::{MOST_TICK, RECORD};
 use crate::make::{crossing_book, full_of, large_book, many_claims};
-use crate::make::{ranks_book, small_book, sound, unjudged_book};
+use crate::make::{ranks_book, small_book, sound, steep_book, unjudged_book};
 use crate::seam::seam_book;
 use crate::shared::shared_book;
 use crate::spoil::{long_book, rubbish, spoil_bytes, spoil_fields, spoil_twice};
@@ -191,6 +191,7 @@ fn any_book(dice: &mut Dice) -> (&'static str, Vec<u8>) {
         340..=419 => ("several faults", spoil_twice(dice)),
         420..=519 => ("edges", sound(&small_book(dice, true))),
         520..=534 => ("ranks at the limit", sound(&ranks_book(dice))),
+        535..=549 => ("a steep crossing", sound(&steep_book(dice))),
         _ => ("sound", sound(&small_book(dice, false))),
     }
 }

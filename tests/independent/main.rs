@@ -1,4 +1,5 @@
-//! The independent program: document 01 once more, naively, beside the judge it tests.
+//! The independent program: document 01, with what document 02 has changed in it, once more, naively,
+//! beside the judge it tests.
 //!
 //! book.rs      the layout, read and written        law.rs       values, horizons, verdicts
 //! judge.rs     the entries' answers                text.rs      the program's lines

@@ -7,6 +7,7 @@
 //! full_of          256 claims with given codes
 //! large_book       a horizon of 4,095 to 4,097
 //! crossing_book    a crossing N that decides whether the horizon is above 4,096
+//! steep_book       the same with curves that jump within a period
 //! ranks_book       a horizon of 4,096 or 4,097 by ranks, with different rates
 //! unjudged_book    a horizon above 4,096, cheap for any judge
 //! one_claim        a book of one small claim of a given kind
@@ -624,19 +625,60 @@ pub fn crossing_book(dice: &mut Dice) -> Book {
         // At least one unit a tick faster, so that one unit more moves N by one at most.
         g.c = (f.c / f.d + dice.between(2, 4)) * g.d + dice.below(g.d);
         let g = mended(g);
-        let target = dice.pick(&[MOST_HORIZON, MOST_HORIZON + 1]);
         let at = |high: i64| crossing_claim(kind, &raised(f.clone(), f.t, high), &g, &h);
-        let far = |high: i64| horizon(&at(high), &at(high).claims[0]);
-        let high = least_from(0, 60_000, |high| far(high) >= target);
-        if far(high) != target {
+        if let Some(high) = to_the_limit(dice, at) {
+            return turned(dice, at(high));
+        }
+    }
+}
+
+/// The slower curve jumps within its period, and its increment grows by as much; the other one is a
+/// little faster and may jump too. The horizon is 4,096 or 4,097, but for a convolution with T = 0,
+/// which has no N however steep it is. The claim breaks at tick 0, so it is cheap if judged.
+pub fn steep_book(dice: &mut Dice) -> Book {
+    loop {
+        let kind = dice.between(2, 3) as u8;
+        let (f, g, mut h) = (small_curve(dice), small_curve(dice), small_curve(dice));
+        if f.d == 1 {
             continue;
         }
-        let mut book = at(high);
-        if dice.once_in(2) {
-            (book.claims[0].left, book.claims[0].right) = (1, 0);
+        h.values[0] = 0;
+        let (f, g, h) = (raised(f, 0, 1), raised(g, 0, 1), mended(h));
+        let (faster, rest) = (dice.between(4, 8), dice.below(g.d));
+        let place = f.t + dice.between(1, f.d - 1);
+        let other = g.t + dice.between(1, g.d);
+        let at = |steep: i64| {
+            let mut f = raised(f.clone(), place, steep * f.d);
+            f.c += steep * f.d;
+            let mut g = raised(g.clone(), other, steep * g.d);
+            g.c = (f.c / f.d + faster) * g.d + rest;
+            crossing_claim(kind, &f, &mended(g), &h)
+        };
+        let steep = if kind == 3 && f.t == 0 {
+            Some(dice.between(20_000, 60_000))
+        } else {
+            to_the_limit(dice, at)
+        };
+        if let Some(steep) = steep {
+            return turned(dice, at(steep));
         }
-        return book;
     }
+}
+
+/// What brings the horizon of the claim to 4,096 or 4,097, if something does.
+fn to_the_limit(dice: &mut Dice, at: impl Fn(i64) -> Book) -> Option<i64> {
+    let target = dice.pick(&[MOST_HORIZON, MOST_HORIZON + 1]);
+    let far = |high: i64| horizon(&at(high), &at(high).claims[0]);
+    let high = least_from(0, 60_000, |high| far(high) >= target);
+    (far(high) == target).then_some(high)
+}
+
+/// Sometimes left and right are exchanged.
+fn turned(dice: &mut Dice, mut book: Book) -> Book {
+    if dice.once_in(2) {
+        (book.claims[0].left, book.claims[0].right) = (1, 0);
+    }
+    book
 }
 
 fn crossing_claim(kind: u8, f: &Curve, g: &Curve, h: &Curve) -> Book {

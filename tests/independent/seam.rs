@@ -67,12 +67,11 @@ pub fn held_at(book: &[u8], place: usize) -> Option<Curve> {
     };
     let length = number(&[*high, *low]) as usize;
     let content = &rest[..length.min(rest.len())];
-    let (numbers, list) = content.split_at_checked(8)?;
-    Some(Curve {
-        t: number(&numbers[0..2]),
-        d: number(&numbers[2..4]),
-        c: number(&numbers[4..8]),
-        values: list.chunks_exact(4).map(number).collect(),
+    (content.len() >= 8).then(|| Curve {
+        t: number(&content[0..2]),
+        d: number(&content[2..4]),
+        c: number(&content[4..8]),
+        values: content[8..].chunks_exact(4).map(number).collect(),
     })
 }
 
