@@ -41,8 +41,9 @@
        7F hex  end       empty                                                                             once
 
    For n >= T, f(n+d) = f(n)+c. d >= 1; T+d <= 256; c and each value at most 1,000,000; no value below the one before
-   it; X at most 1,000,000,000. Curves and claims are counted from 0 in the order of the book. With f the left curve, g
-   the right one and h the claimed one, a claim says, of every tick n or s:
+   it, and f(T)+c not below f(T+d-1), so that no curve falls; X at most 1,000,000,000. Curves and claims are counted
+   from 0 in the order of the book. With f the left curve, g the right one and h the claimed one, a claim says, of every
+   tick n or s:
 
        1 sum               h(n) = f(n)+g(n)
        2 minimum           h(n) = the smaller of f(n), g(n)
@@ -50,7 +51,9 @@
        4 delay bound X     f(s) <= g(s+X)
        5 exact delay X     4 holds for X and, if X > 0, not for X-1
        6 backlog bound X   f(s) <= g(s)+X
-       7 exact backlog X   6 holds for X and, if X > 0, not for X-1 */
+       7 exact backlog X   6 holds for X and, if X > 0, not for X-1
+
+   So an exact delay is the largest, over all s, of the least wait w with f(s) <= g(s+w). */
 #ifndef ZURMAKIDA_H
 #define ZURMAKIDA_H
 
@@ -157,7 +160,7 @@ struct curve_value curve_value(const uint8_t *book, size_t book_length, uint64_t
         7  curve: period 0, or rank + period over 256
         6  curve: the count of the values is not rank + period
         8  curve: the increment or a value is over 1,000,000
-        9  curve: a value is below the one before it
+        9  curve: a value is below the one before it, or f(T)+c is below f(T+d-1)
        10  claim: the kind is none of 1 to 7
        11  claim: left, right or, for kinds 1 to 3, h names no curve that was added
        12  claim: X, for kinds 4 to 7, is over 1,000,000,000
