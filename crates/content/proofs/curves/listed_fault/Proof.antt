@@ -18,17 +18,17 @@ returns : tie.Need-returns
 unfolding listedFault
 returns c = rw (← (c .before .no-span .ensures), c .if1 .taken)
 
+small : (c : tie.Else1) → let a = c .before .before .before .args in a .rank + a .period ≤ maxListed
+small c = let a = c .before .before .before .args in span-fits (a .rank) (a .period) (sym (c .before .no-span .ensures) ∙ c .if1 .left) .1
+
 add-if2 : tie.Need-add-if2
-add-if2 c = let a = c .before .before .before .args in omega (arith, span-fits (a .rank) (a .period) (sym (c .before .no-span .ensures) ∙ c .if1 .left))
+add-if2 c = omega (arith, small c)
 
 returns-2 : tie.Need-returns-2
 unfolding listedFault
 returns-2 c =
     let a = c .before .before .before .before .args in
     rw (← (c .before .before .no-span .ensures), c .before .if1 .left, ne-eqb (length (now (a .values))) (a .rank + a .period) (c .if2 .taken))
-
-small : (c : tie.Else1) → let a = c .before .before .before .args in a .rank + a .period ≤ maxListed
-small c = let a = c .before .before .before .args in span-fits (a .rank) (a .period) (sym (c .before .no-span .ensures) ∙ c .if1 .left) .1
 
 cast-limit-fault : tie.Need-cast-limit-fault
 cast-limit-fault c = omega (arith, small (c .before))
