@@ -56,8 +56,8 @@ Bound δ f g X = (s : ℕ) → f s ≤ allowed δ g X s
 abbrev pub VerticalDeviation : (ℕ → ℕ) → (ℕ → ℕ) → ℕ → Type 0
 VerticalDeviation f g X = ((s : ℕ) → f s - g s ≤ X) × ((s : ℕ) × (f s - g s ≡ X))
 
--- Source document 003, equation 7, "h(f,g) = sup over s >= 0 of inf { w >= 0 | f(s) <= g(s+w) }", on ticks. The inf: a
--- wait of w serves f(s), and no sooner one does
+-- Source document 003, equation 7, with f, g and w for its letters: h(f,g) is the sup, over all s >= 0, of the inf of
+-- those w >= 0 for which f(s) <= g(s+w). On ticks, the inf: a wait of w serves f(s), and no sooner one does
 pub record LeastWait (f g : ℕ → ℕ) (s w : ℕ) : Type 0 where
   pub serves : f s ≤ g (s + w)
   pub no-sooner : (v : ℕ) → v < w → g (s + v) < f s
