@@ -30,7 +30,8 @@ pub fn value_in(book: &[u8], curve: u64, tick: u64) -> Asked
     let places = sound.places;
     let place = places.curves[n];
     let f = curve_at(book, place as usize);
-    Asked::Value(value_at(f.rank, f.period, f.increment, &f.listed, Ticks(tick as u32)))
+    let at = tick as u32;
+    Asked::Value(value_at(f.form, &f.rises, Ticks(at)))
 }
 
 // The same as two numbers: the refusal's number + 2^8 * its place, 0 where there is a value, and the value.

@@ -1,8 +1,8 @@
 // A curve's content: T (2), d (2), c (4), then T+d values (4 each).
 ghost use mathlib.Core.Path.{_≡_};
-ghost use Prim.Native.Nat.{_+_, _<_};
-ghost use lib.ListN.{length};
+ghost use Prim.Native.Nat.{_≤_, _<_};
 ghost use Rattle.minplus.specs.Curve.{maxListed};
+ghost use Rattle.curve.specs.Filled.{filled};
 ghost use Rattle.curve.specs.Held.{holding};
 ghost use Rattle.content.specs.Layout.{valueIn, curveIn};
 ghost use Rattle.content.specs.Refusals.{noSpan, valuesFit, valuesRise, limitFault, listedFault, curveFault};
@@ -10,7 +10,7 @@ use crate::Checked;
 use crate::Refusal;
 use curve::Curve;
 use curve::Ticks;
-use curve::values::seam_holds;
+use curve::listed::seam_holds;
 use numbers::number2;
 use numbers::number4;
 
@@ -57,9 +57,8 @@ fn values_rise(values: &[u32]) -> bool
     true
 }
 
-// What is refused of an increment of any size and of T+d values.
+// What is refused of an increment of any size and of a list.
 fn limit_fault(rank: u32, period: u32, increment: u64, values: &[u32]) -> Checked
-    requires { ⌜ length (now values) ≡ rank + period ⌝ }
     ensures { λ r. ⌜ r ≡ limitFault (record { rank = rank; period = period; increment = increment; listed = now (values .entry) }) ⌝ }
 {
     if (Curve::MAX_UNITS as u64) < increment {
@@ -97,6 +96,20 @@ fn listed_in(content: &[u8], n: usize) -> u32
     number4(content, HEAD + 4 * n)
 }
 
+// The first `count` values of a content, in a working array that starts as 0.
+fn values_in(content: &[u8], count: usize) -> [u32; Curve::MAX_LISTED]
+    requires { ⌜ count ≤ maxListed ⌝ }
+    ensures { λ r. ⌜ r ≡ filled (valueIn (now (content .entry))) maxListed count ⌝ }
+{
+    let mut values = [0u32; Curve::MAX_LISTED];
+    let mut n: usize = 0;
+    while n < count {
+        values[n] = listed_in(content, n);
+        n += 1;
+    }
+    values
+}
+
 // The curve of a content, whatever bytes they are; of a sound one, the curve that it says.
 pub fn curve_in(content: &[u8]) -> Curve
     ensures { λ r. ⌜ r ≡ holding (curveIn (now (content .entry))) ⌝ }
@@ -108,12 +121,7 @@ pub fn curve_in(content: &[u8]) -> Curve
     if Curve::MAX_LISTED < held {
         held = Curve::MAX_LISTED;
     }
-    let mut values = [0u32; Curve::MAX_LISTED];
-    let mut n: usize = 0;
-    while n < held {
-        values[n] = listed_in(content, n);
-        n += 1;
-    }
+    let values = values_in(content, held);
     Curve::new(Ticks(rank), Ticks(period), increment, &values[..held])
 }
 
@@ -132,7 +140,7 @@ pub fn curve_fault(content: &[u8]) -> Checked
     if content.len() != HEAD + 4 * count {
         return Checked::Refused(Refusal::CurveLength);
     }
-    let f = curve_in(content);
-    let listed = f.listed;
-    limit_fault(rank, period, f.increment as u64, &listed[..count])
+    let increment = number4(content, 4);
+    let values = values_in(content, count);
+    limit_fault(rank, period, increment as u64, &values[..count])
 }

@@ -1,11 +1,12 @@
 -- Laws that several functions' proofs cite, over plain numbers and lists.
-use Prim.Native.Nat.{ℕ, _-_, _*_, _<_, _≤_, _^_, min}
-use mathlib.Core.Path.{_≡_}
+use Prim.Native.Nat.{ℕ, suc, _+_, _-_, _*_, _/_, _<_, _≤_, _^_}
+use mathlib.Core.Path.{_≡_, ap, _∙_}
 use mathlib.Core.List.{List}
-use lib.ListN.{length, getD, take, length-take, List·getD-eq-default}
+use lib.ListN.{getD}
 use native.Mathlib.Omega.{arith}
-use native.Mathlib.Nat.{mul-le-mul, lt-of-lt-of-le}
+use native.Mathlib.Nat.{mul-le-mul, lt-of-lt-of-le, zero-div}
 use lib.Dec.{lit≤}
+use Rattle.curve.specs.Steps.{sumTo}
 
 -- a product of two numbers of 32 bits leaves room for another such number
 pub product-fits : {a b : ℕ} → a < 2 ^ 32 → b < 2 ^ 32 → a * b < 2 ^ 64 - 2 ^ 32
@@ -16,6 +17,15 @@ product-fits {a} {b} ha hb =
 pub product-below : {a b : ℕ} → a < 2 ^ 32 → b < 2 ^ 32 → a * b < 2 ^ 64
 product-below ha hb = lt-of-lt-of-le (product-fits ha hb) (lit≤ tt)
 
--- nothing is listed past the end, nor past what counts
-pub untaken : (l : List ℕ) (count at : ℕ) → min count (length l) ≤ at → getD (take count l) at 0 ≡ 0
-untaken l count at past = List·getD-eq-default (take count l) 0 (simp length-take past)
+-- before the rank no period is over
+pub div-none : (n T d : ℕ) → n ≤ T → (n - T) / d ≡ 0
+div-none n T d le = let none : n - T ≡ 0 = omega arith in rw none (zero-div d)
+
+-- one more of the numbers from a place on
+pub sum-on : (l : List ℕ) (from i : ℕ) → from ≤ i
+    → sumTo (λ j. getD l (from + j) 0) (i + 1 - from) ≡ sumTo (λ j. getD l (from + j) 0) (i - from) + getD l i 0
+unfolding sumTo
+sum-on l from i le =
+    let e : i + 1 - from ≡ suc (i - from) = omega arith in
+    let here : from + (i - from) ≡ i = omega arith in
+    ap (sumTo (λ j. getD l (from + j) 0)) e ∙ ap (λ (n : ℕ). sumTo (λ j. getD l (from + j) 0) (i - from) + getD l n 0) here

@@ -74,7 +74,7 @@ pub filled-taken : (F : ℕ → ℕ) (room k : ℕ) → take k (filled F room k)
 unfolding filled
 filled-taken F room k = take-at (listOf F k) (replicate {A = ℕ} (room - length (listOf F k)) 0) k (length-listOf F k)
 
-listOf-same : (F G : ℕ → ℕ) (k : ℕ) → ((n : ℕ) → n < k → F n ≡ G n) → listOf F k ≡ listOf G k
+pub listOf-same : (F G : ℕ → ℕ) (k : ℕ) → ((n : ℕ) → n < k → F n ≡ G n) → listOf F k ≡ listOf G k
 unfolding listOf
 listOf-same F G zero same = refl
 listOf-same F G (suc k) same = rw (listOf-same F G k (λ n lt. same n (omega arith)), same k (omega arith))

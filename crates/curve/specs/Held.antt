@@ -1,103 +1,110 @@
 -- The curve that the code's values stand for.
 --
---     heldOf, curveOf                T, d, c and the first T + d places of an array, as a curve of the crate minplus
---     padded                         a list in the working array; held-whole: what is put in is what is held;
---                                    padded-listed, padded-filled: F(0) to F(k-1) in it
---     holding                        a curve in the working copy; holding-back: of a well-formed one, it is that curve
---     Listed                         document 01's limits on the listed values, for a loop that looks at one more each
---                                    turn
---     listed-none, listed-more       before the first turn, and after one more
---     held-listed, listed-held       of the working array, exactly the values that count have to keep them; the seam is
---                                    asked beside them
-use Prim.Native.Nat.{ℕ, zero, suc, _+_, _-_, _≤_, _<_, min}
-use mathlib.Core.Path.{_≡_, sym, ap, _∙_}
-use mathlib.Core.List.{List, _∷_}
+--     heldAs, stepsIn, curveOf       a struct's numbers and an array of rises as a form; of a curve's; its curve. What stands in the array from T+d on counts for nothing (form-same)
+--     cut, heldFrom, holding         a curve in the working copy, of which values past the 256th are not held (cut-whole,
+--                                    holding-listed); holding-back: of a well-formed one, it is that curve;
+--                                    holding-tells: of T+d values, what is held is well formed exactly when they are
+use Prim.Native.Nat.{ℕ, _+_, _≤_, _<_, min}
+use mathlib.Core.Path.{_≡_, sym, ap, _∙_, subst}
+use mathlib.Core.Bool.{Bool, true, false}
+use mathlib.Core.List.{List, []}
 use native.Mathlib.Omega.{arith}
-use lib.ListN.{take, getD, length}
-use lib.Seq.{ext-getD, getD-take, length-take-le}
-use borrow.Author.Count.{below-none, below-more}
+use native.Mathlib.Nat.{min-eq-left}
+use mathlib.Core.Logic.{_↔_}
+use lib.ListN.{length, getD, take, length-take}
+use lib.Seq.{ext-getD, getD-take, take-all}
 use Rattle.minplus.specs.Curve as C
+use Rattle.minplus.specs.Curve.{count, listedAt}
 use Rattle.curve.specs.declared.Curve.{Curve}
-use Rattle.curve.specs.Filled.{listOf, filled, length-listOf, listOf-at, filled-length, filled-at, filled-taken, filled-same}
+use Rattle.curve.specs.declared.Form.{Form}
+use Rattle.curve.specs.Filled.{listOf, filled, length-listOf, listOf-at, listOf-same, filled-at}
+use Rattle.curve.specs.Steps.{Steps, sumTo, reached, risenTo, closes, listedFrom, curveFrom, riseIn, riseOf, stepsOf, stepCount, sum-same, steps-back, steps-tell}
 
-abbrev pub heldOf : ℕ → ℕ → ℕ → List ℕ → C.Curve
-heldOf rank period increment listed = record { rank = rank; period = period; increment = increment; listed = take (rank + period) listed }
+abbrev pub heldAs : Form → List ℕ → Steps
+heldAs form rises = record { rank = form .rank .0; period = form .period .0; increment = form .increment; first = form .first; rises = rises }
+
+abbrev pub stepsIn : Curve → Steps
+stepsIn f = heldAs (f .form) (f .rises)
 
 abbrev pub curveOf : Curve → C.Curve
-curveOf f = heldOf (f .rank .0) (f .period .0) (f .increment) (f .listed)
+curveOf f = curveFrom (stepsIn f)
 
--- a list in the working array: as much of it as there is room for
-abbrev pub padded : List ℕ → List ℕ
-padded l = filled (λ n. getD l n 0) C.maxListed (min (length l) C.maxListed)
+-- no curve has values past the 256th, and they are not looked at
+abbrev pub cut : C.Curve → C.Curve
+cut f = record { rank = f .rank; period = f .period; increment = f .increment; listed = take C.maxListed (f .listed) }
+
+-- in a working array that begins as 0; as many rises as there is room for
+abbrev pub heldFrom : C.Curve → Curve
+heldFrom f = record {
+  form = record { rank = record { 0 = f .rank }; period = record { 0 = f .period }; increment = f .increment; first = listedAt f 0 };
+  rises = filled (riseOf f) C.maxListed (min (count f) C.maxListed);
+}
 
 abbrev pub holding : C.Curve → Curve
-holding f = record { rank = record { 0 = f .rank }; period = record { 0 = f .period }; increment = f .increment; listed = padded (f .listed) }
+holding f = heldFrom (cut f)
 
 -- ---- laws
 
-pub padded-listed : (F : ℕ → ℕ) (k : ℕ) → padded (listOf F k) ≡ filled F C.maxListed (min k C.maxListed)
-padded-listed F k =
-    rw (length-listOf F k)
-    (filled-same (λ n. getD (listOf F k) n 0) F C.maxListed (min k C.maxListed) (λ n lt. listOf-at F k n (omega arith)))
+module _ (form : Form) (l l′ : List ℕ) (same : (n : ℕ) → n < form .rank .0 + form .period .0 → getD l n 0 ≡ getD l′ n 0) where
+  reached-same : (n : ℕ) → n ≤ form .rank .0 + form .period .0 → reached (heldAs form l) n ≡ reached (heldAs form l′) n
+  unfolding risenTo
+  reached-same n le = ap (λ (x : ℕ). form .first + x) (sum-same (λ i. getD l i 0) (λ i. getD l′ i 0) n (λ i lt. same i (omega arith)))
 
--- the stored part of an array that was filled from F, in a working array of its own
-pub padded-filled : (F : ℕ → ℕ) (n k : ℕ) → n ≡ min k C.maxListed → padded (take n (filled F C.maxListed n)) ≡ padded (listOf F k)
-padded-filled F n k e =
-    let capped : min n C.maxListed ≡ min k C.maxListed = omega (arith, e) in
-    rw (filled-taken F C.maxListed n, padded-listed F n, capped, padded-listed F k)
+  closes-same : closes (heldAs form l) ≡ closes (heldAs form l′)
+  unfolding closes
+  closes-same =
+      let T : ℕ = form .rank .0 in
+      rw (sum-same (λ i. getD l (T + i) 0) (λ i. getD l′ (T + i) 0) (form .period .0) (λ i lt. same (T + i) (omega arith)))
 
--- what is put in is what is held
-module _ (rank period increment : ℕ) (listed : List ℕ) (whole : length listed ≡ rank + period) (fits : rank + period ≤ C.maxListed) where
-  pub held-whole : heldOf rank period increment (padded listed) ≡ record { rank = rank; period = period; increment = increment; listed = listed }
-  held-whole =
-      let stored : min (length listed) C.maxListed ≡ rank + period = omega arith in
-      let F : ℕ → ℕ = λ n. getD listed n 0 in
-      let room : length (padded listed) ≡ C.maxListed = filled-length F C.maxListed (min (length listed) C.maxListed) (omega arith) in
-      let taken : length (take (rank + period) (padded listed)) ≡ rank + period = length-take-le (rank + period) (padded listed) (omega arith) in
-      ap (λ (l : List ℕ). record { rank = rank; period = period; increment = increment; listed = l })
-      (ext-getD 0 (take (rank + period) (padded listed)) listed (taken ∙ sym whole)
-      (λ i lt. getD-take (rank + period) (padded listed) i 0 (omega arith) ∙ filled-at F C.maxListed (min (length listed) C.maxListed) i (omega arith)))
+  pub form-same : curveFrom (heldAs form l) ≡ curveFrom (heldAs form l′)
+  unfolding listedFrom
+  form-same =
+      ap (λ (x : List ℕ). record { rank = form .rank .0; period = form .period .0; increment = form .increment; listed = x })
+      (λ i. elim (closes-same i) as (λ _. List ℕ) [
+        | true ↦ listOf-same (reached (heldAs form l)) (reached (heldAs form l′)) (form .rank .0 + form .period .0) (λ n lt. reached-same n (omega arith)) i
+        | false ↦ []
+      ])
 
-pub holding-back : (f : C.Curve) → C.WellFormed f → curveOf (holding f) ≡ f
-holding-back f w = held-whole (f .rank) (f .period) (f .increment) (f .listed) (w .listed-whole) (w .count-fits)
+-- T+d values, of which there are at most 256, are all looked at
+pub cut-whole : (f : C.Curve) → length (f .listed) ≤ C.maxListed → cut f ≡ f
+cut-whole f fits =
+    ap (λ (l : List ℕ). record { rank = f .rank; period = f .period; increment = f .increment; listed = l }) (take-all C.maxListed (f .listed) fits)
 
--- what document 01 asks of the first count values. With a 0 before it the first value falls below nothing
-pub record Listed (l : List ℕ) (count : ℕ) : Type 0 where
-  pub fit : (n : ℕ) → n < count → getD l n 0 ≤ C.maxUnits
-  pub rise : (n : ℕ) → n < count → getD (0 ∷ l) n 0 ≤ getD l n 0
+take-listed : (F : ℕ → ℕ) (k : ℕ) → take C.maxListed (listOf F k) ≡ listOf F (min k C.maxListed)
+take-listed F k =
+    ext-getD 0 (take C.maxListed (listOf F k)) (listOf F (min k C.maxListed)) (long ∙ sym (length-listOf F (min k C.maxListed)))
+    (λ n lt.
+    getD-take C.maxListed (listOf F k) n 0 (omega (arith, lt, long)) ∙ listOf-at F k n (omega (arith, lt, long))
+    ∙ sym (listOf-at F (min k C.maxListed) n (omega (arith, lt, long))))
+  where
+    long : length (take C.maxListed (listOf F k)) ≡ min k C.maxListed
+    long = simp (length-take, length-listOf F k) (omega arith)
 
-pub listed-none : (l : List ℕ) → Listed l 0
-listed-none l = record { fit = below-none _; rise = below-none _ }
+-- F(0) to F(k-1): the first 256 of them alone count
+pub holding-listed : (rank period increment : ℕ) (F : ℕ → ℕ) (n k : ℕ) → n ≡ min k C.maxListed
+    → holding (record { rank = rank; period = period; increment = increment; listed = listOf F n })
+    ≡ holding (record { rank = rank; period = period; increment = increment; listed = listOf F k })
+holding-listed rank period increment F n k e =
+    let same : min n C.maxListed ≡ min k C.maxListed = omega (arith, e) in
+    ap (λ (l : List ℕ). heldFrom (record { rank = rank; period = period; increment = increment; listed = l }))
+    (take-listed F n ∙ ap (listOf F) same ∙ sym (take-listed F k))
 
-pub listed-more : {l : List ℕ} {n : ℕ} → Listed l n → getD l n 0 ≤ C.maxUnits → getD (0 ∷ l) n 0 ≤ getD l n 0 → Listed l (n + 1)
-listed-more {l} {n} so-far fits rises = record {
-  fit = below-more (λ m. getD l m 0 ≤ C.maxUnits) n (so-far .fit) fits;
-  rise = below-more (λ m. getD (0 ∷ l) m 0 ≤ getD l m 0) n (so-far .rise) rises;
-}
+module _ (f : C.Curve) where
+  -- of a curve that has room
+  holding-form : length (f .listed) ≤ C.maxListed → count f ≤ C.maxListed → curveOf (holding f) ≡ curveFrom (stepsOf f)
+  holding-form few fits =
+      let all : min (count f) C.maxListed ≡ count f = min-eq-left fits in
+      ap (λ (g : C.Curve). curveOf (heldFrom g)) (cut-whole f few)
+      ∙ form-same (heldFrom f .form) (heldFrom f .rises) (stepsOf f .rises)
+      (λ n lt. filled-at (riseOf f) C.maxListed (min (count f) C.maxListed) n (omega (arith, all)) ∙ sym (listOf-at (riseOf f) (count f) n lt))
 
--- of the working array, exactly the values that count have to be listed well
-module _ (rank period increment : ℕ) (l : List ℕ) where
-  taken : (n : ℕ) → n < rank + period → getD (take (rank + period) l) n 0 ≡ getD l n 0
-  taken n lt = getD-take (rank + period) l n 0 lt
+  pub holding-back : C.WellFormed f → curveOf (holding f) ≡ f
+  holding-back w = holding-form (omega (arith, w .listed-whole, w .count-fits)) (w .count-fits) ∙ steps-back f w
 
-  pub held-listed : C.WellFormed (heldOf rank period increment l) → Listed l (rank + period)
-  held-listed w = record { fit = λ n lt. rw (← taken n lt) (w .values-fit n lt); rise = rises }
-    where
-      rises : (n : ℕ) → n < rank + period → getD (0 ∷ l) n 0 ≤ getD l n 0
-      rises zero lt = omega arith
-      rises (suc n) lt = rw (← taken n (omega arith), ← taken (suc n) lt) (w .rises .listed-rise n (omega arith))
-
-  pub listed-held : 1 ≤ period → rank + period ≤ C.maxListed → C.maxListed ≤ length l → increment ≤ C.maxUnits → Listed l (rank + period)
-      → getD (take (rank + period) l) (rank + period - 1) 0 ≤ getD (take (rank + period) l) rank 0 + increment
-      → C.WellFormed (heldOf rank period increment l)
-  listed-held positive fits room small listed seam = record {
-    period-positive = positive;
-    count-fits = fits;
-    listed-whole = length-take-le (rank + period) l (omega arith);
-    increment-fits = small;
-    values-fit = λ n lt. rw (taken n lt) (listed .fit n lt);
-    rises = record {
-      listed-rise = λ n lt. rw (taken n (omega arith), taken (suc n) (omega arith)) (listed .rise (suc n) (omega arith));
-      seam-holds = seam;
-    };
-  }
+  pub holding-tells : length (f .listed) ≡ count f → C.WellFormed (curveOf (holding f)) ↔ C.WellFormed f
+  holding-tells whole = (
+    λ w.
+        let form = holding-form (omega (arith, whole, w .count-fits)) (w .count-fits) in
+        subst C.WellFormed (form ∙ steps-tell f whole (subst C.WellFormed form w)) w,
+    λ w. subst C.WellFormed (sym (holding-back w)) w,
+  )

@@ -1,11 +1,16 @@
-// Curves and claims as values, and what everything above asks of them: a value at a tick, a table of values, which of
-// two is slower.
+// Curves and claims as values, and what everything above asks of them: a value at a tick, a walk, a table of values,
+// which of two is slower. How a curve is held is known here alone.
 ghost use mathlib.Core.Path.{_≡_};
-ghost use Rattle.curve.specs.Held.{padded};
+ghost use Rattle.curve.specs.Held.{heldFrom, holding};
 ghost use Rattle.curve.specs.Kinds.{namedBy, limitedBy, within};
 
+pub mod listed;
 pub mod rates;
 pub mod values;
+pub mod walks;
+
+use crate::listed::number_at;
+use crate::listed::rise_after;
 
 // A count of ticks. A count of units can't be passed for it.
 pub struct Ticks(pub u32);
@@ -13,13 +18,20 @@ pub struct Ticks(pub u32);
 // A count of data units. A value at any tick that `Ticks` holds fits.
 pub struct Units(pub u64);
 
-// The working copy of a curve, with room for 256 values whatever its rank. What is held from T + d on counts for
-// nothing.
-pub struct Curve {
+// What is held of a curve beside its rises: T, d, c and the first value.
+pub struct Form {
     pub rank: Ticks,
     pub period: Ticks,
     pub increment: u32,
-    pub listed: [u32; Curve::MAX_LISTED],
+    pub first: u32,
+}
+
+// The working copy of a curve: its first value and its rises from tick to tick, with room for 256 whatever its rank. The
+// last of the T+d rises is that over the seam, and from the T-th on they repeat. What is held past them counts for
+// nothing.
+pub struct Curve {
+    pub form: Form,
+    pub rises: [u32; Curve::MAX_LISTED],
 }
 
 impl Curve {
@@ -27,26 +39,42 @@ impl Curve {
 
     pub const MAX_UNITS: u32 = 1_000_000;
 
-    // Values past the 256th are not held: no curve has them.
+    // Of the first T+d values: one that is missing counts as 0, and those past the 256th are not looked at. A list that
+    // falls has no rises, and what is held of it is ill-formed.
     pub fn new(rank: Ticks, period: Ticks, increment: u32, values: &[u32]) -> Curve
-        ensures { λ r. ⌜ r ≡ record { rank = rank; period = period; increment = increment; listed = padded (now (values .entry)) } ⌝ }
+        ensures { λ r. ⌜ r ≡ holding (record { rank = rank .0; period = period .0; increment = increment; listed = now (values .entry) }) ⌝ }
     {
-        let mut listed = [0u32; Curve::MAX_LISTED];
-        let mut count = values.len();
-        if Curve::MAX_LISTED < count {
-            count = Curve::MAX_LISTED;
+        let mut listed = values.len();
+        if Curve::MAX_LISTED < listed {
+            listed = Curve::MAX_LISTED;
         }
-        let mut n: usize = 0;
-        while n < count {
-            listed[n] = values[n];
-            n += 1;
-        }
-        Curve {
+        held_from(rank, period, increment, &values[..listed])
+    }
+}
+
+// As many rises as there is room for.
+fn held_from(rank: Ticks, period: Ticks, increment: u32, values: &[u32]) -> Curve
+    ensures { λ r. ⌜ r ≡ heldFrom (record { rank = rank .0; period = period .0; increment = increment; listed = now (values .entry) }) ⌝ }
+{
+    let mut rises = [0u32; Curve::MAX_LISTED];
+    let mut held = rank.0 as usize + period.0 as usize;
+    if Curve::MAX_LISTED < held {
+        held = Curve::MAX_LISTED;
+    }
+    let mut n: usize = 0;
+    while n < held {
+        rises[n] = rise_after(rank, period, increment, values, n);
+        n += 1;
+    }
+    let first = number_at(values, 0);
+    Curve {
+        form: Form {
             rank,
             period,
             increment,
-            listed,
-        }
+            first,
+        },
+        rises,
     }
 }
 

@@ -8,5 +8,6 @@ use crate::Curve;
 pub fn slower(f: Curve, g: Curve) -> bool
     ensures { λ r. ⌜ r ≡ Def.slower (curveOf f) (curveOf g) ⌝ }
 {
-    (f.increment as u64 * g.period.0 as u64) < g.increment as u64 * f.period.0 as u64
+    (f.form.increment as u64 * g.form.period.0 as u64)
+        < g.form.increment as u64 * f.form.period.0 as u64
 }

@@ -1,83 +1,124 @@
-// A curve's value at a tick, its first values in a lent table, and whether it falls where one period meets the next.
+// A curve's value at a tick, its first values in a lent table, and whether its rises are those of a curve. The array is
+// lent, so that no call copies it. Each answers for any numbers: a value that 64 bits do not hold stands as their
+// largest number, and no well-formed curve has one.
 ghost use mathlib.Core.Path.{_≡_};
-ghost use Prim.Native.Nat.{_<_, _^_, min};
-ghost use Rattle.minplus.specs.Curve.{value, seamHolds};
-ghost use lib.ListN.{getD, take};
-ghost use Rattle.curve.specs.Held.{heldOf};
-ghost use Rattle.curve.specs.Table.{tableOver, largest};
+ghost use Prim.Native.Nat.{_+_, _-_, _*_, _/_, _≤_, _<_, min};
+ghost use lib.ListN.{getD};
+ghost use Rattle.curve.specs.Held.{heldAs};
+ghost use Rattle.curve.specs.Steps.{largest, sumTo, risenTo, closes, valueBy, stepped};
+ghost use Rattle.curve.specs.Table.{tableOver};
+ghost use Rattle.curve.specs.Walks.{most, placeBy};
 use crate::Claim;
+use crate::Form;
 use crate::Ticks;
 use crate::Units;
+use crate::listed::narrow;
+use crate::walks::Walk;
 
-// A value that is listed, of the first `count`; 0 where there is none.
-fn listed_at(listed: &[u32], count: u64, at: u64) -> u64
-    ensures { λ r. ⌜ r ≡ getD (take count (now (listed .entry))) at 0 ⌝ }
-    ensures { λ r. ⌜ r < 2 ^ 32 ⌝ }
+// The sum of `count` rises from the `from`-th on. Those that the array lacks are 0.
+fn risen(rises: &[u32], from: usize, count: usize) -> u64
+    requires { ⌜ (from < 4_294_967_296) × (count < 4_294_967_296) ⌝ }
+    ensures { λ r. ⌜ r ≡ sumTo (λ i. getD (now (rises .entry)) (from + i) 0) count ⌝ }
+    ensures { λ r. ⌜ r ≤ count * largest ⌝ }
 {
-    if at < count {
-        if at < listed.len() as u64 {
-            return listed[at as usize] as u64;
-        }
+    let mut end = from + count;
+    if rises.len() < end {
+        end = rises.len();
     }
-    0
+    let mut sum: u64 = 0;
+    let mut i: usize = from;
+    while i < end {
+        let rise = &rises[i];
+        sum += *rise as u64;
+        i += 1;
+    }
+    sum
 }
 
-// The array is lent, so that no call copies it. A period of 0 is no curve's, and has the definition's value all the
-// same.
-pub fn value_at(rank: Ticks, period: Ticks, increment: u32, listed: &[u32], tick: Ticks) -> Units
-    ensures { λ r. ⌜ r .0 ≡ value (heldOf (rank .0) (period .0) increment (now (listed .entry))) (tick .0) ⌝ }
+// The listed value at a place: the first value and the rises before it.
+pub fn listed_at(first: u32, rises: &[u32], place: u32) -> u64
+    ensures { λ r. ⌜ r ≡ risenTo first (now (rises .entry)) place ⌝ }
 {
-    let t = rank.0 as u64;
-    let d = period.0 as u64;
-    let n = tick.0 as u64;
+    first as u64 + risen(rises, 0, place as usize)
+}
+
+// The rises of one period add up to c.
+pub fn closes(form: Form, rises: &[u32]) -> bool
+    ensures { λ r. ⌜ r ≡ closes (heldAs form (now (rises .entry))) ⌝ }
+{
+    let rank = form.rank.0 as usize;
+    risen(rises, rank, form.period.0 as usize) == form.increment as u64
+}
+
+// The place in the list that a tick comes to. A period of 0 is no curve's.
+pub(crate) fn place_by(form: Form, tick: Ticks) -> u32
+    ensures { λ r. ⌜ r ≡ placeBy (form .rank .0) (form .period .0) (tick .0) ⌝ }
+{
+    let t = form.rank.0;
+    let d = form.period.0;
+    let n = tick.0;
+    if n < t {
+        return n;
+    }
     if d == 0 {
-        return Units(listed_at(listed, t + d, n));
+        return n;
     }
-    if n < t + d {
-        return Units(listed_at(listed, t + d, n));
-    }
-    let since = n - t;
-    let listed = listed_at(listed, t + d, t + since % d);
-    Units(listed + since / d * increment as u64)
+    t + (n - t) % d
 }
 
-// f(T)+c, the first value of the next period, is not below f(T+d-1). The values before it are not looked at.
-pub fn seam_holds(rank: Ticks, period: Ticks, increment: u32, listed: &[u32]) -> bool
-    ensures { λ r. ⌜ r ≡ seamHolds (heldOf (rank .0) (period .0) increment (now (listed .entry))) ⌝ }
+// The whole periods since the rank.
+fn turns(form: Form, tick: Ticks) -> u32
+    ensures { λ r. ⌜ r ≡ (tick .0 - form .rank .0) / form .period .0 ⌝ }
 {
-    let t = rank.0 as u64;
-    let count = t + period.0 as u64;
-    if count == 0 {
-        return true;
+    let t = form.rank.0;
+    let d = form.period.0;
+    let n = tick.0;
+    if n < t {
+        return 0;
     }
-    let last = listed_at(listed, count, count - 1);
-    last <= listed_at(listed, count, t) + increment as u64
+    if d == 0 {
+        return 0;
+    }
+    (n - t) / d
 }
 
-// A value that needs more than 32 bits stands as their largest number; no well-formed curve has one up to tick 4,096.
-fn narrow(x: u64) -> u32
-    ensures { λ r. ⌜ r ≡ min x largest ⌝ }
+pub(crate) fn capped_sum(a: u64, b: u64) -> u64
+    ensures { λ r. ⌜ r ≡ min (a + b) most ⌝ }
 {
-    if x < 4_294_967_295 {
-        x as u32
+    if 18_446_744_073_709_551_615 - a < b {
+        18_446_744_073_709_551_615
     } else {
-        4_294_967_295
+        a + b
     }
 }
 
-// The values at the ticks from 0 on, over the places of `out`: at most 4,097 of them, and what stands after those
-// stays.
-pub fn fill(rank: Ticks, period: Ticks, increment: u32, listed: &[u32], out: &mut [u32])
-    ensures { λ _. ⌜ now (out .exit) ≡ tableOver (heldOf (rank .0) (period .0) increment (now (listed .entry))) (now (out .entry)) ⌝ }
+// Whole periods by one multiplication, then the rises up to the tick's place in the list.
+pub fn value_at(form: Form, rises: &[u32], tick: Ticks) -> Units
+    ensures { λ r. ⌜ r .0 ≡ min (valueBy (heldAs form (now (rises .entry))) (tick .0)) most ⌝ }
+{
+    let listed = listed_at(form.first, rises, place_by(form, tick));
+    let gained = turns(form, tick) as u64 * form.increment as u64;
+    Units(capped_sum(listed, gained))
+}
+
+// The values at the ticks from 0 on, by a running sum, over the places of `out`: at most 4,097 of them, and what stands
+// after those stays. A value that needs more than 32 bits stands as their largest number.
+pub fn fill(form: Form, rises: &[u32], out: &mut [u32])
+    ensures { λ _. ⌜ now (out .exit) ≡ tableOver (stepped (heldAs form (now (rises .entry)))) (now (out .entry)) ⌝ }
 {
     let mut end = out.len();
     if Claim::MAX_HORIZON + 1 < end {
         end = Claim::MAX_HORIZON + 1;
     }
+    let mut walk = Walk {
+        place: 0,
+        value: Units(form.first as u64),
+    };
     let mut n: usize = 0;
     while n < end {
-        let value = value_at(rank, period, increment, listed, Ticks(n as u32));
+        let value = walk.value;
         out[n] = narrow(value.0);
+        walk = walk.next(form, rises);
         n += 1;
     }
 }

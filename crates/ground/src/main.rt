@@ -45,7 +45,7 @@ fn judge(claim: Claim, f: Curve, g: Curve, h: Curve) {
 
 fn value(f: Curve, tick: u32) {
     io::write_all(1, b" value");
-    let v = value_at(f.rank, f.period, f.increment, &f.listed, Ticks(tick));
+    let v = value_at(f.form, &f.rises, Ticks(tick));
     field(v.0);
     io::write_all(1, b"\n");
 }

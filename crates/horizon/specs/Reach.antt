@@ -2,11 +2,9 @@
 --
 --     choice greatest           the greater or the lesser of two numbers
 --     signedOf                  a struct of two numbers as a signed number
---     raisedAt                  the numbers that an extreme is taken of; extreme-held: of the listed values as of the
---                               curve's
---     Extent, Small, Ready, Crossable      what is known where it is computed, so that products fit: no extreme is
---                                          above large, no N above far
---     raised-fits, choice-fits, begun-fits, above-fits, below-fits, faster-fits     that they do
+--     Raisable, Extent, Small, Ready, Crossable      what is known where it is computed, so that products fit: no
+--                                          extreme is above large, no N above far
+--     raised-fits, raisable, choice-fits, begun-fits, above-fits, below-fits, faster-fits     that they do
 --     evenRank, crossingN       the rank with equal rates, and N where f is the slower curve
 --     rates-left, rates-right, rates-even     by the three ways in which two rates can stand; convolution-none,
 --                                             convolution-some: by T
@@ -16,12 +14,8 @@
 use Prim.Native.Nat.{ℕ, suc, _+_, _-_, _*_, _≤_, _<_, min, max}
 use mathlib.Core.Path.{_≡_, refl, sym, ap, _∙_}
 use mathlib.Core.Bool.{Bool, true, false}
-use mathlib.Core.List.{List}
 use native.Mathlib.Omega.{arith}
 use native.Mathlib.Nat.{max-comm, mul-le-mul, le-of-lt}
-use lib.ListN.{length, getD}
-use lib.Seq.{getD-take}
-use Rattle.minplus.specs.Search.{best-same}
 use Rattle.minplus.specs.Curve as C
 use Rattle.minplus.specs.Ranks.{common-comm, by-rates}
 use Rattle.minplus.specs.Claim as M
@@ -30,7 +24,6 @@ use Rattle.minplus.specs.Horizon.{Slower}
 use Rattle.horizon.specs.declared.crossing.Signed.{Signed}
 use Rattle.horizon.specs.declared.Horizon.{Horizon}
 use Rattle.horizon.specs.declared.Horizon.the-variants.{At, IllFormed}
-use Rattle.curve.specs.Held.{heldOf}
 
 abbrev pub choice : Bool → ℕ → ℕ → ℕ
 choice true = max
@@ -39,14 +32,17 @@ choice false = min
 abbrev pub signedOf : Signed → H.Signed
 signedOf s = record { plus = s .plus; minus = s .minus }
 
--- the numbers that an extreme is taken of
-abbrev pub raisedAt : List ℕ → ℕ → ℕ → ℕ → ℕ → ℕ → ℕ
-raisedAt l = H.raisedAt (λ n. getD l n 0)
+-- a value and factors that are small enough: no value that is looked at is above that at tick 256
+pub record Raisable (v d c left : ℕ) : Type 0 where
+  pub value-fits : v ≤ 256_000_000
+  pub factor-fits : d ≤ C.maxListed
+  pub slope-fits : c ≤ C.maxUnits
+  pub left-fits : left ≤ C.maxListed
 
--- what an extreme is taken over: some of the listed values, with factors that are small enough
-pub record Extent (l : List ℕ) (d c start count : ℕ) : Type 0 where
+-- what an extreme is taken over: some of a curve's values, with factors that are small enough
+pub record Extent (f : C.Curve) (d c start count : ℕ) : Type 0 where
+  pub well-formed : C.WellFormed f
   pub some : 1 ≤ count
-  pub inside : start + count ≤ length l
   pub room : start + count ≤ C.maxListed
   pub factor-fits : d ≤ C.maxListed
   pub slope-fits : c ≤ C.maxUnits
@@ -93,27 +89,21 @@ horizonAnswer c = elim (M.wellFormedClaim c) [ true ↦ At (H.horizon c) | false
 
 -- ---- laws
 
-pub raised-fits : {l : List ℕ} {d c start count : ℕ} (i : ℕ) → Extent l d c start count → getD l (start + i) 0 < 4_294_967_296
-    → raisedAt l d c start count i ≤ large
-raised-fits {l} {d} {c} {start} {count} i over fits =
-    let value : getD l (start + i) 0 ≤ 4_294_967_296 = omega arith in
-    let ticks : count - i ≤ C.maxListed = omega (arith, over .room) in
-    omega (arith, mul-le-mul (over .factor-fits) value, mul-le-mul (over .slope-fits) ticks)
+pub raised-fits : {v d c left : ℕ} → Raisable v d c left → d * v + c * left ≤ large
+raised-fits at = omega (arith, mul-le-mul (at .factor-fits) (at .value-fits), mul-le-mul (at .slope-fits) (at .left-fits))
+
+pub raisable : {f : C.Curve} {d c start count v left : ℕ} → Extent f d c start count → (n : ℕ) → n < start + count → v ≡ C.value f n → left ≤ count
+    → Raisable v d c left
+raisable {f} over n lt is few = record {
+  value-fits = omega (arith, is, C.value-at-most f (over .well-formed) n, over .room);
+  factor-fits = over .factor-fits;
+  slope-fits = over .slope-fits;
+  left-fits = omega (arith, few, over .room);
+}
 
 pub choice-fits : (greatest : Bool) {a b bound : ℕ} → a ≤ bound → b ≤ bound → choice greatest a b ≤ bound
 choice-fits true ha hb = omega arith
 choice-fits false ha hb = omega arith
-
--- up to the rank and its first period a value is the listed one
-pub extreme-held : (choose : ℕ → ℕ → ℕ) (rank period increment : ℕ) (l : List ℕ) (d c start count : ℕ) → 1 ≤ period → 1 ≤ count
-    → start + count ≤ rank + period
-    → H.extremeOf choose (C.value (heldOf rank period increment l)) d c start count ≡ H.extremeOf choose (λ t. getD l t 0) d c start count
-unfolding H.extremeOf
-extreme-held choose rank period increment l d c start count positive some inside =
-    ap (λ (p : ℕ). record { plus = p; minus = c * (start + count) })
-    (best-same choose _ _ (count - 1) (λ i le.
-    ap (λ (v : ℕ). d * v + c * (count - i))
-    (C.value-listed (heldOf rank period increment l) positive (start + i) (omega arith) ∙ getD-take (rank + period) l (start + i) 0 (omega arith))))
 
 pub begun-fits : {f g : C.Curve} → Ready f g → (H.begunAt f g .plus ≤ large) × (H.begunAt f g .minus ≤ large)
 begun-fits {f} {g} at =

@@ -1,16 +1,19 @@
 // The crossing N: from where on the slower curve decides.
 ghost use mathlib.Core.Path.{_≡_};
-ghost use Prim.Native.Nat.{_+_, _-_, _≤_, _<_, max};
-ghost use lib.ListN.{getD};
+ghost use Prim.Native.Nat.{_+_, _-_, _*_, _≤_, max};
 ghost use Rattle.minplus.specs.Curve.{WellFormed, value};
 ghost use Rattle.minplus.specs.Horizon as Def;
-ghost use Rattle.curve.specs.Held.{curveOf};
+ghost use Rattle.curve.specs.Steps.{curveFrom};
+ghost use Rattle.curve.specs.Held.{curveOf, heldAs};
 ghost use Rattle.curve.specs.Claimed.{operationOf};
-ghost use Rattle.horizon.specs.Reach.{choice, signedOf, raisedAt, Extent, Small, Ready, Crossable, large, far, crossingN};
+ghost use Rattle.horizon.specs.Reach.{choice, signedOf, Raisable, Extent, Small, Ready, Crossable, large, far, crossingN};
 use curve::Curve;
+use curve::Form;
 use curve::Operation;
+use curve::Ticks;
 use curve::rates::slower;
 use curve::values::value_at;
+use curve::walks::Walk;
 
 // A whole number that may be below 0: plus less minus.
 struct Signed {
@@ -40,48 +43,59 @@ fn chosen(greatest: bool, a: u64, b: u64) -> u64
     if a < b { a } else { b }
 }
 
-// d*f(t) - c*t at the i-th of `count` ticks from `start` on, raised by c*(start + count), so that it is not below 0.
-fn raised(listed: &[u32], d: u64, c: u64, start: usize, count: usize, i: usize) -> u64
-    requires { ⌜ Extent (now listed) d c start count × (i < count) ⌝ }
-    ensures { λ r. ⌜ r ≡ raisedAt (now (listed .entry)) d c start count i ⌝ }
+// d*f(t) - c*t, raised by c times the ticks that are `left` from t on, and those before it: not below 0.
+fn raised(value: u64, d: u64, c: u64, left: u32) -> u64
+    requires { ⌜ Raisable value d c left ⌝ }
+    ensures { λ r. ⌜ r ≡ d * value + c * left ⌝ }
     ensures { λ r. ⌜ r ≤ large ⌝ }
 {
-    d * listed[start + i] as u64 + c * (count - i) as u64
+    d * value + c * left as u64
 }
 
-// The greatest or the least d*f(t) - c*t over start <= t < start + count.
-fn extreme(greatest: bool, listed: &[u32], d: u64, c: u64, start: usize, count: usize) -> Signed
-    requires { ⌜ Extent (now listed) d c start count ⌝ }
-    ensures { λ r. ⌜ signedOf r ≡ Def.extremeOf (choice greatest) (λ t. getD (now (listed .entry)) t 0) d c start count ⌝ }
+// The greatest or the least d*f(t) - c*t over start <= t < start + count, by a walk over f.
+fn extreme(
+    greatest: bool,
+    form: Form,
+    rises: &[u32],
+    d: u64,
+    c: u64,
+    start: Ticks,
+    count: u32,
+) -> Signed
+    requires { ⌜ Extent (curveFrom (heldAs form (now rises))) d c (start .0) count ⌝ }
+    ensures { λ r. ⌜ signedOf r ≡ Def.extremeOf (choice greatest) (value (curveFrom (heldAs form (now (rises .entry))))) d c (start .0) count ⌝ }
     ensures { λ r. ⌜ Small large r ⌝ }
 {
-    let mut kept = raised(listed, d, c, start, count, 0);
-    let mut i: usize = 1;
+    let mut walk = Walk::at(form, rises, start);
+    let begun = walk.value;
+    let mut kept = raised(begun.0, d, c, count);
+    let mut i: u32 = 1;
     while i < count {
-        kept = chosen(greatest, kept, raised(listed, d, c, start, count, i));
+        walk = walk.next(form, rises);
+        let value = walk.value;
+        kept = chosen(greatest, kept, raised(value.0, d, c, count - i));
         i += 1;
     }
-    Signed {
-        plus: kept,
-        minus: c * (start + count) as u64,
-    }
+    let minus = c * (start.0 + count) as u64;
+    Signed { plus: kept, minus }
 }
 
 // The extreme over one period from the rank on.
 fn turning(greatest: bool, f: Curve) -> Signed
     requires { ⌜ WellFormed (curveOf f) ⌝ }
-    ensures { λ r. ⌜ signedOf r ≡ Def.extremeOf (choice greatest) (value (curveOf f)) (f .period .0) (f .increment) (f .rank .0) (f .period .0) ⌝ }
+    ensures { λ r. ⌜ signedOf r ≡ Def.extremeOf (choice greatest) (value (curveOf f)) (f .form .period .0) (f .form .increment) (f .form .rank .0) (f .form .period .0) ⌝ }
     ensures { λ r. ⌜ Small large r ⌝ }
 {
-    let d = f.period.0;
-    let t = f.rank.0;
+    let form = f.form;
+    let d = form.period.0;
     extreme(
         greatest,
-        &f.listed,
+        form,
+        &f.rises,
         d as u64,
-        f.increment as u64,
-        t as usize,
-        d as usize,
+        form.increment as u64,
+        form.rank,
+        d,
     )
 }
 
@@ -91,10 +105,10 @@ fn crossing(f: Curve, g: Curve, a: Signed, b: Signed) -> u64
     ensures { λ r. ⌜ r ≡ Def.crossing (curveOf f) (curveOf g) (signedOf a) (signedOf b) ⌝ }
     ensures { λ r. ⌜ r ≤ far ⌝ }
 {
-    let d = f.period.0 as u64;
-    let e = g.period.0 as u64;
+    let d = f.form.period.0 as u64;
+    let e = g.form.period.0 as u64;
     let ahead = excess(e * a.plus + d * b.minus, d * b.plus + e * a.minus);
-    let faster = g.increment as u64 * d - f.increment as u64 * e;
+    let faster = g.form.increment as u64 * d - f.form.increment as u64 * e;
     (ahead + (faster - 1)) / faster
 }
 
@@ -115,30 +129,32 @@ fn begun(f: Curve, g: Curve) -> Signed
     ensures { λ r. ⌜ signedOf r ≡ Def.begunAt (curveOf f) (curveOf g) ⌝ }
     ensures { λ r. ⌜ Small large r ⌝ }
 {
-    let d = f.period.0 as u64;
-    let c = f.increment as u64;
-    let rank = g.rank;
-    let value = value_at(g.rank, g.period, g.increment, &g.listed, rank);
-    Signed {
-        plus: d * value.0,
-        minus: c * rank.0 as u64,
-    }
+    let d = f.form.period.0 as u64;
+    let c = f.form.increment as u64;
+    let form = g.form;
+    let rank = form.rank;
+    let value = value_at(form, &g.rises, rank);
+    let plus = d * value.0;
+    let minus = c * rank.0 as u64;
+    Signed { plus, minus }
 }
 
 // The least d'*f(t) - c'*t over 0 <= t < T, where there is such a t.
 fn earliest(f: Curve, g: Curve) -> Signed
-    requires { ⌜ Ready (curveOf f) (curveOf g) × (1 ≤ f .rank .0) ⌝ }
+    requires { ⌜ Ready (curveOf f) (curveOf g) × (1 ≤ f .form .rank .0) ⌝ }
     ensures { λ r. ⌜ signedOf r ≡ Def.earliest (curveOf f) (curveOf g) ⌝ }
     ensures { λ r. ⌜ Small large r ⌝ }
 {
-    let t = f.rank.0;
+    let form = f.form;
+    let t = form.rank.0;
     extreme(
         false,
-        &f.listed,
-        g.period.0 as u64,
-        g.increment as u64,
-        0,
-        t as usize,
+        form,
+        &f.rises,
+        g.form.period.0 as u64,
+        g.form.increment as u64,
+        Ticks(0),
+        t,
     )
 }
 
@@ -148,7 +164,7 @@ fn convolution_n(f: Curve, g: Curve) -> u64
     ensures { λ r. ⌜ r ≡ Def.convolutionN (curveOf f) (curveOf g) ⌝ }
     ensures { λ r. ⌜ r ≤ far ⌝ }
 {
-    if f.rank.0 == 0 {
+    if f.form.rank.0 == 0 {
         return 0;
     }
     let a = increased(turning(true, f), begun(f, g));

@@ -31,7 +31,7 @@ fn common_period(f: Curve, g: Curve) -> u32
     ensures { λ r. ⌜ r ≡ Def.commonPeriod (curveOf f) (curveOf g) ⌝ }
     ensures { λ r. ⌜ r ≤ 65_536 ⌝ }
 {
-    common_multiple(f.period.0, g.period.0) as u32
+    common_multiple(f.form.period.0, g.form.period.0) as u32
 }
 
 fn even_rank(operation: Operation, f: Curve, g: Curve) -> u64
@@ -40,9 +40,11 @@ fn even_rank(operation: Operation, f: Curve, g: Curve) -> u64
     ensures { λ r. ⌜ r ≤ far ⌝ }
 {
     match operation {
-        Operation::Sum => larger(f.rank.0 as u64, g.rank.0 as u64),
-        Operation::Minimum => larger(f.rank.0 as u64, g.rank.0 as u64),
-        Operation::Convolution => f.rank.0 as u64 + g.rank.0 as u64 + common_period(f, g) as u64,
+        Operation::Sum => larger(f.form.rank.0 as u64, g.form.rank.0 as u64),
+        Operation::Minimum => larger(f.form.rank.0 as u64, g.form.rank.0 as u64),
+        Operation::Convolution => {
+            f.form.rank.0 as u64 + g.form.rank.0 as u64 + common_period(f, g) as u64
+        }
     }
 }
 
@@ -52,16 +54,16 @@ fn result_horizon(operation: Operation, f: Curve, g: Curve, h: Curve) -> u64
     ensures { λ r. ⌜ r ≡ Def.horizon (equals (operationOf operation) (curveOf f) (curveOf g) (curveOf h)) ⌝ }
 {
     let rank = larger(even_rank(operation, f, g), n_by_rates(operation, f, g));
-    let last = larger(rank, h.rank.0 as u64);
-    last + common_multiple(common_period(f, g), h.period.0)
+    let last = larger(rank, h.form.rank.0 as u64);
+    last + common_multiple(common_period(f, g), h.form.period.0)
 }
 
 // Kinds 4 to 7: max(T,T') + D.
 fn bound_horizon(f: Curve, g: Curve) -> u64
     requires { ⌜ WellFormed (curveOf f) × WellFormed (curveOf g) ⌝ }
-    ensures { λ r. ⌜ r ≡ max (f .rank .0) (g .rank .0) + Def.commonPeriod (curveOf f) (curveOf g) ⌝ }
+    ensures { λ r. ⌜ r ≡ max (f .form .rank .0) (g .form .rank .0) + Def.commonPeriod (curveOf f) (curveOf g) ⌝ }
 {
-    larger(f.rank.0 as u64, g.rank.0 as u64) + common_period(f, g) as u64
+    larger(f.form.rank.0 as u64, g.form.rank.0 as u64) + common_period(f, g) as u64
 }
 
 pub fn horizon_of(claim: Claim, f: Curve, g: Curve, h: Curve) -> Horizon

@@ -3,7 +3,7 @@
 --     Told P b      true where P holds, false where it does not
 --     told-yes, told-no       what is told
 --     told-test     so it is what any other test of P gives
---     told-leb      a comparison tells
+--     told-leb      a comparison tells; told-self: a test tells whether it is true
 --     told-map      what tells one statement tells another that holds exactly when the first does
 use Prim.Native.Nat.{ℕ, _≤_}
 use mathlib.Core.Path.{_≡_, refl, sym}
@@ -36,6 +36,10 @@ told-leb a b = go (leb a b) refl
     go : (t : Bool) → leb a b ≡ t → Told (a ≤ b) t
     go true e = yes (leb-true a b e)
     go false e = no (λ le. omega (arith, leb-false a b e))
+
+pub told-self : (b : Bool) → Told (b ≡ true) b
+told-self true = yes refl
+told-self false = no (λ e. absurd (false≢true e))
 
 pub told-map : {P Q : Type 0} {r : Bool} → (P → Q) → (Q → P) → Told P r → Told Q r
 told-map there back (yes p) = yes (there p)

@@ -1,54 +1,37 @@
 // Whether a curve and a claim keep document 01's limits.
 ghost use Prim.Native.Nat.{_≤_};
 ghost use mathlib.Core.Path.{_≡_};
-ghost use lib.ListN.{length};
 ghost use Rattle.minplus.specs.Curve.{WellFormed};
 ghost use Rattle.minplus.specs.Claim.{wellFormedClaim, maxX};
-ghost use Rattle.curve.specs.Held.{curveOf, Listed};
+ghost use Rattle.curve.specs.Held.{curveOf};
 ghost use Rattle.curve.specs.Claimed.{claimOf, amountOf};
 ghost use Rattle.limits.specs.Told.{Told};
 use curve::Claim;
 use curve::Curve;
 use curve::Deviation;
-use curve::values::seam_holds;
+use curve::values::closes;
+use curve::values::listed_at;
 
-// The first `count` values: none above the limit, none below the one before it.
-fn listed_well(listed: &[u32], count: usize) -> bool
-    requires { ⌜ count ≤ length (now listed) ⌝ }
-    ensures { λ r. ⌜ Told (Listed (now (listed .entry)) count) r ⌝ }
-{
-    let mut before: u32 = 0;
-    let mut n: usize = 0;
-    while n < count {
-        if Curve::MAX_UNITS < listed[n] {
-            return false;
-        }
-        if listed[n] < before {
-            return false;
-        }
-        before = listed[n];
-        n += 1;
-    }
-    true
-}
-
+// The values never fall, as no rise is below 0: the last listed one is the greatest.
 fn well_formed(f: Curve) -> bool
     ensures { λ r. ⌜ Told (WellFormed (curveOf f)) r ⌝ }
 {
-    let count = f.rank.0 as u64 + f.period.0 as u64;
-    if f.period.0 == 0 {
+    let form = f.form;
+    let count = form.rank.0 as u64 + form.period.0 as u64;
+    if form.period.0 == 0 {
         return false;
     }
     if (Curve::MAX_LISTED as u64) < count {
         return false;
     }
-    if Curve::MAX_UNITS < f.increment {
+    if Curve::MAX_UNITS < form.increment {
         return false;
     }
-    if !listed_well(&f.listed, count as usize) {
+    let last = listed_at(form.first, &f.rises, (count - 1) as u32);
+    if (Curve::MAX_UNITS as u64) < last {
         return false;
     }
-    seam_holds(f.rank, f.period, f.increment, &f.listed)
+    closes(form, &f.rises)
 }
 
 fn within(deviation: Deviation) -> bool

@@ -3,6 +3,7 @@ use crate::fields::Field;
 use crate::fields::MOST_FIELDS;
 use crate::fields::Statement;
 use crate::fields::field_by;
+use crate::fields::first_values;
 use crate::fields::statement_at;
 use book::Book;
 use curve::Curve;
@@ -59,18 +60,20 @@ fn same_values(f: &[u32], g: &[u32]) -> bool {
     f.len() == g.len()
 }
 
-// What is held from T+d on is 0 in both.
+// The values at the first 256 ticks have all that are listed among them.
 fn same_curve(f: Curve, g: Curve) -> bool {
-    if f.rank.0 != g.rank.0 {
+    if f.form.rank.0 != g.form.rank.0 {
         return false;
     }
-    if f.period.0 != g.period.0 {
+    if f.form.period.0 != g.form.period.0 {
         return false;
     }
-    if f.increment != g.increment {
+    if f.form.increment != g.form.increment {
         return false;
     }
-    same_values(&f.listed, &g.listed)
+    let left = first_values(f);
+    let right = first_values(g);
+    same_values(&left, &right)
 }
 
 fn same_statement(c: Statement, d: Statement) -> bool {

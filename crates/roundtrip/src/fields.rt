@@ -3,8 +3,10 @@ use book::Book;
 use content::ClaimField;
 use content::Stated;
 use curve::Claim;
+use curve::Curve;
 use curve::Deviation;
 use curve::Operation;
+use curve::values::fill;
 use field::State;
 use field::places::claim_at;
 
@@ -39,6 +41,13 @@ pub(crate) fn field_by(book: Book, n: usize) -> Field {
         }
     }
     Field::End
+}
+
+// A curve's values at the first 256 ticks.
+pub(crate) fn first_values(f: Curve) -> [u32; Curve::MAX_LISTED] {
+    let mut values = [0u32; Curve::MAX_LISTED];
+    fill(f.form, &f.rises, &mut values);
+    values
 }
 
 // A claim in numbers. The third is h for kinds 1 to 3 and X for 4 to 7.

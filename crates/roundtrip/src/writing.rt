@@ -2,6 +2,7 @@
 use crate::fields::Field;
 use crate::fields::MOST_FIELDS;
 use crate::fields::field_by;
+use crate::fields::first_values;
 use crate::fields::statement_at;
 use book::Book;
 use content::Checked;
@@ -21,7 +22,7 @@ pub(crate) enum Writing {
     Refused(usize, Refusal),
 }
 
-// The first T+d values. The working copy of a sound curve has so many.
+// The first T+d values. A sound curve has no more than there are.
 fn listed(values: &[u32], rank: u32, period: u32) -> &[u32] {
     let count = rank as usize + period as usize;
     if count <= values.len() {
@@ -32,15 +33,17 @@ fn listed(values: &[u32], rank: u32, period: u32) -> &[u32] {
 }
 
 fn again_curve(writer: Writer, out: &mut [u8], f: Curve) -> Called {
-    let rank = f.rank.0;
-    let period = f.period.0;
+    let rank = f.form.rank.0;
+    let period = f.form.period.0;
+    let increment = f.form.increment;
+    let values = first_values(f);
     add_curve(
         writer,
         out,
         rank as u64,
         period as u64,
-        f.increment as u64,
-        listed(&f.listed, rank, period),
+        increment as u64,
+        listed(&values, rank, period),
     )
 }
 

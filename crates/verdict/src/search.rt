@@ -2,22 +2,23 @@
 ghost use mathlib.Core.Path.{_≡_};
 ghost use Prim.Native.Nat.{_≤_, _<_};
 ghost use lib.ListN.{length};
-ghost use Rattle.minplus.specs.Curve.{value};
-ghost use Rattle.minplus.specs.Claim.{allowed, atMost, exactly};
+ghost use Rattle.minplus.specs.Claim.{atMost, exactly};
 ghost use Rattle.minplus.specs.Verdict.{lessHolds};
-ghost use Rattle.curve.specs.Held.{curveOf, heldOf};
+ghost use Rattle.curve.specs.Steps.{curveFrom, stepped};
+ghost use Rattle.curve.specs.Held.{heldAs, stepsIn};
 ghost use Rattle.curve.specs.Table.{tableOver};
-ghost use Rattle.curve.specs.Claimed.{amountOf, boundOf, claimOf, deviationOf, resultOf};
+ghost use Rattle.curve.specs.Claimed.{boundOf, claimOf, resultOf};
 ghost use Rattle.verdict.specs.Found.{foundOf, differs, dueIn, tableAt, Searchable};
-ghost use Rattle.verdict.specs.Break.{Allowable, Judgeable, breakOf, isNowhere};
+ghost use Rattle.verdict.specs.Break.{Comparable, Judgeable, breakOf, firstAbove, isNowhere, laterBy, moreBy};
 use curve::Claim;
 use curve::Curve;
 use curve::Deviation;
+use curve::Form;
 use curve::Operation;
 use curve::Ticks;
 use curve::Units;
 use curve::values::fill;
-use curve::values::value_at;
+use curve::walks::Walk;
 
 // The last horizon that has small tables. Up to about there, zeroing large ones would take longer than all else.
 const NEAR: usize = 127;
@@ -82,9 +83,9 @@ fn first_difference(operation: Operation, f: &[u32], g: &[u32], h: &[u32], tried
 
 // The array is lent on, so that it is not copied again.
 fn put_values(f: Curve, table: &mut [u32])
-    ensures { λ _. ⌜ now (table .exit) ≡ tableOver (curveOf f) (now (table .entry)) ⌝ }
+    ensures { λ _. ⌜ now (table .exit) ≡ tableOver (stepped (stepsIn f)) (now (table .entry)) ⌝ }
 {
-    fill(f.rank, f.period, f.increment, &f.listed, table);
+    fill(f.form, &f.rises, table);
 }
 
 // Kinds 1 to 3: the first tried tick that breaks the rule, in tables that are lent.
@@ -150,25 +151,62 @@ fn first_far(operation: Operation, f: Curve, g: Curve, h: Curve, horizon: usize)
     )
 }
 
-// Kinds 4 to 7: the right value at a tick, of a curve whose array is lent, so that no call copies it.
-fn allowed_at(
-    deviation: Deviation,
-    rank: Ticks,
-    period: Ticks,
-    increment: u32,
-    listed: &[u32],
-    tick: Ticks,
-) -> Units
-    requires { ⌜ Allowable (heldOf (rank .0) (period .0) increment (now listed)) (amountOf deviation) (tick .0) ⌝ }
-    ensures { λ r. ⌜ r .0 ≡ allowed (deviationOf deviation) (value (heldOf (rank .0) (period .0) increment (now (listed .entry)))) (amountOf deviation) (tick .0) ⌝ }
+// Kinds 4 and 5: how many ticks later the right value is taken. A backlog's is not.
+fn later_by(deviation: Deviation) -> Ticks
+    ensures { λ r. ⌜ r .0 ≡ laterBy deviation ⌝ }
 {
     match deviation {
-        Deviation::Delay(x) => value_at(rank, period, increment, listed, Ticks(tick.0 + x.0)),
-        Deviation::Backlog(x) => {
-            let value = value_at(rank, period, increment, listed, tick);
-            Units(value.0 + x.0)
-        }
+        Deviation::Delay(x) => x,
+        Deviation::Backlog(_) => Ticks(0),
     }
+}
+
+// Kinds 6 and 7: what is added to the right value. To a delay's it is nothing.
+fn more_by(deviation: Deviation) -> Units
+    ensures { λ r. ⌜ r .0 ≡ moreBy deviation ⌝ }
+{
+    match deviation {
+        Deviation::Delay(_) => Units(0),
+        Deviation::Backlog(x) => x,
+    }
+}
+
+// The first of the `tried` ticks at which f is above what g is so many ticks later, and so many units more. Each of the
+// two is walked over, one rise a tick.
+fn first_above(
+    f: Form,
+    left: &[u32],
+    g: Form,
+    right: &[u32],
+    later: Ticks,
+    more: Units,
+    tried: usize,
+) -> Found
+    requires { ⌜ Comparable (curveFrom (heldAs f (now left))) (curveFrom (heldAs g (now right))) (later .0) (more .0) tried ⌝ }
+    ensures { λ r. ⌜ r ≡ firstAbove (curveFrom (heldAs f (now (left .entry)))) (curveFrom (heldAs g (now (right .entry)))) (later .0) (more .0) tried ⌝ }
+{
+    let mut arrived = Walk::at(f, left, Ticks(0));
+    let mut served = Walk::at(g, right, later);
+    let mut found = Found::Nowhere;
+    let mut s: usize = 0;
+    'ticks: while s < tried {
+        let value = arrived.value;
+        let service = served.value;
+        let allowed = service.0 + more.0;
+        if allowed < value.0 {
+            let tick = s as u32;
+            found = Found::At {
+                tick: Ticks(tick),
+                left: value,
+                right: Units(allowed),
+            };
+            break 'ticks;
+        }
+        arrived = arrived.next(f, left);
+        served = served.next(g, right);
+        s += 1;
+    }
+    found
 }
 
 // Kinds 4 to 7: the first tried tick at which the left value is above the right one.
@@ -176,30 +214,9 @@ fn first_over(deviation: Deviation, f: Curve, g: Curve, horizon: usize) -> Found
     requires { ⌜ Judgeable (boundOf deviation atMost f g) horizon ⌝ }
     ensures { λ r. ⌜ r ≡ breakOf (boundOf deviation atMost f g) ⌝ }
 {
-    let mut found = Found::Nowhere;
-    let mut s: usize = 0;
-    'ticks: while s < horizon {
-        let tick = s as u32;
-        let left = value_at(f.rank, f.period, f.increment, &f.listed, Ticks(tick));
-        let right = allowed_at(
-            deviation,
-            g.rank,
-            g.period,
-            g.increment,
-            &g.listed,
-            Ticks(tick),
-        );
-        if right.0 < left.0 {
-            found = Found::At {
-                tick: Ticks(tick),
-                left,
-                right,
-            };
-            break 'ticks;
-        }
-        s += 1;
-    }
-    found
+    let later = later_by(deviation);
+    let more = more_by(deviation);
+    first_above(f.form, &f.rises, g.form, &g.rises, later, more, horizon)
 }
 
 // The first tried tick that breaks the claim's rule. Kinds 1 to 3 try the horizon too.

@@ -35,11 +35,11 @@ common-multiple-requires c κs = search needs
 add-result : tie.Need-add-result
 add-result c =
     let a = c .before .before .before .before .before .before .before .args in
-    let period : a .h .period .0 ≤ 4_294_967_295 = omega arith in
+    let period : a .h .form .period .0 ≤ 4_294_967_295 = omega arith in
     omega (
       arith,
       c .common-multiple .ensures,
-      lcm-at-most (c .before .common-period .result) (a .h .period .0),
+      lcm-at-most (c .before .common-period .result) (a .h .form .period .0),
       mul-le-mul (c .before .common-period .ensures .1) period,
       c .before .before .larger2 .ensures,
       c .before .before .before .before .larger .ensures,
@@ -53,8 +53,8 @@ returns c =
     let a = c .before .before .before .before .before .before .before .args in
     let rank = c .before .before .before .before .larger .ensures ∙ ap₂ max (c .before .before .before .before .before .before .even-rank .ensures .0) (c .before .before .before .before .before .n-by-rates .ensures .0)
     ∙ sym (rank-is (operationOf (a .operation)) (curveOf (a .f)) (curveOf (a .g))) in
-    ap₂ _+_ (c .before .before .larger2 .ensures ∙ ap (λ (r : ℕ). max r (a .h .rank .0)) rank)
-    (c .common-multiple .ensures ∙ ap (λ (d : ℕ). lcm d (a .h .period .0)) (c .before .common-period .ensures .0))
+    ap₂ _+_ (c .before .before .larger2 .ensures ∙ ap (λ (r : ℕ). max r (a .h .form .rank .0)) rank)
+    (c .common-multiple .ensures ∙ ap (λ (d : ℕ). lcm d (a .h .form .period .0)) (c .before .common-period .ensures .0))
 
 pub result-horizon-spec : {M : Type 1} → statement M
 result-horizon-spec =

@@ -1,9 +1,9 @@
 use mathlib.Core.Path.{sym, subst}
 use native.Mathlib.Omega.{arith}
 use Rattle.minplus.specs.Curve.{WellFormed}
-use Rattle.curve.specs.Held.{curveOf, listed-held, held-listed}
-use Rattle.limits.specs.Told.{Told, no, told-leb, told-map, told-no, told-yes}
-use borrow.Author.Tests.{not-true, not-false}
+use Rattle.curve.specs.Steps.{closes, sized-well, well-sized, well-closes}
+use Rattle.curve.specs.Held.{curveOf, stepsIn}
+use Rattle.limits.specs.Told.{Told, no, told-map, told-self}
 use borrow.Author.Needs.{needs}
 use Rattle.limits.proofs.well_formed.Statement.{statement}
 use Rattle.limits.proofs.well_formed.Tie as tie
@@ -26,27 +26,41 @@ returns-2 c = no (λ w. omega (arith, w .count-fits))
 returns-3 : tie.Need-returns-3
 returns-3 c = no (λ w. omega (arith, w .increment-fits))
 
-listed-well-requires : tie.Need-listed-well-requires
-listed-well-requires c κs = search needs
+sub-listed-at : tie.Need-sub-listed-at
+sub-listed-at c = search needs
+
+cast-listed-at : tie.Need-cast-listed-at
+cast-listed-at c = search needs
+
+listed-at-requires : tie.Need-listed-at-requires
+listed-at-requires c κs = search needs
+
+cast-if4 : tie.Need-cast-if4
+cast-if4 c = search needs
 
 returns-4 : tie.Need-returns-4
 returns-4 c =
-    let f = c .before .before .before .before .before .before .before .before .args .t1 in
-    no (λ w. told-no (c .before .listed-well .ensures) (not-true _ (c .if4 .taken)) (held-listed (f .rank .0) (f .period .0) (f .increment) (f .listed) w))
+    let f = c .before .before .before .before .before .before .before .before .before .before .before .before .before .args .t1 in
+    no (λ w. absurd (omega (arith, well-sized {s = stepsIn f} w .last-fits, c .before .listed-at .ensures, c .if4 .taken)))
 
-seam-holds-requires : tie.Need-seam-holds-requires
-seam-holds-requires c κs = search needs
+closes-requires : tie.Need-closes-requires
+closes-requires c κs = search needs
 
 returns-5 : tie.Need-returns-5
 returns-5 c =
-    let at = c .before .before .before .before .before .before in
-    let f = at .before .before .before .before .before .before .before .before .args .t1 in
-    let listed = told-yes (at .before .listed-well .ensures) (not-false _ (at .if4 .left)) in
-    subst (Told (WellFormed (curveOf f))) (sym (c .seam-holds .ensures))
+    let at = c .before .before .before .before in
+    let f = at .before .before .before .before .before .before .before .before .before .before .before .before .before .args .t1 in
+    subst (Told (WellFormed (curveOf f))) (sym (c .closes .ensures))
     (told-map
-    (listed-held (f .rank .0) (f .period .0) (f .increment) (f .listed) (omega arith) (omega arith) (omega arith) (omega arith) listed)
-    (λ w. w .rises .seam-holds)
-    (told-leb _ _))
+    (λ closed. sized-well {s = stepsIn f} (record {
+      period-positive = omega arith;
+      count-fits = omega arith;
+      increment-fits = omega arith;
+      last-fits = omega (arith, at .before .listed-at .ensures, at .if4 .left);
+      closed = closed;
+    }))
+    (λ w. well-closes (stepsIn f) w)
+    (told-self (closes (stepsIn f))))
 
 pub well-formed-spec : {M : Type 1} → statement M
 well-formed-spec =
@@ -58,7 +72,10 @@ well-formed-spec =
     returns
     returns-2
     returns-3
-    listed-well-requires
+    sub-listed-at
+    cast-listed-at
+    listed-at-requires
+    cast-if4
     returns-4
-    seam-holds-requires
+    closes-requires
     returns-5)

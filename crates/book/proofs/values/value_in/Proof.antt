@@ -1,11 +1,12 @@
 use Prim.Native.Nat.{ℕ, _<_}
 use mathlib.Core.List.{List}
-use mathlib.Core.Path.{_≡_, sym, ap, _∙_}
+use mathlib.Core.Path.{_≡_, sym, ap, _∙_, subst}
 use native.Mathlib.Omega.{arith}
 use lib.ListN.{length}
 use denote.Ref.{now}
-use Rattle.minplus.specs.Curve.{Curve, value}
-use Rattle.curve.specs.Held.{curveOf, holding, holding-back}
+use Rattle.minplus.specs.Curve.{Curve, WellFormed, value}
+use Rattle.curve.specs.Held.{curveOf, holding, holding-back, stepsIn}
+use Rattle.curve.specs.Walks.{value-held}
 use Rattle.book.specs.Held.{bookOf, read-refused, read-sound}
 use Rattle.book.specs.Sound.{sound-book}
 use Rattle.book.specs.Values.{curveNamed, named-array, named-well, asked-refused, asked-none, asked-far, asked-value}
@@ -71,23 +72,26 @@ cast-curve-at c = search needs
 curve-at-requires : tie.Need-curve-at-requires
 curve-at-requires c κs = search needs
 
-cast-t28 : tie.Need-cast-t28
-cast-t28 c = search needs
+cast-at : tie.Need-cast-at
+cast-at c = search needs
 
 value-at-requires : tie.Need-value-at-requires
 value-at-requires c κs = search needs
 
 returns-4 : tie.Need-returns-4
 returns-4 c =
-    let a = c .before .before .before .before .before .before .before .before .before .before .before .before .before .before .before .before .args in
-    let at = c .before .before .before .before .before .before .before .before .before .before in
+    let a = c .before .before .before .before .before .before .before .before .before .before .before .before .before .before .before .args in
+    let at = c .before .before .before .before .before .before .before .before .before in
     let s = now (a .book) in
     let so = sound-so (at .before) in
-    let is = c .before .before .before .before .before .before .curve-at .ensures
+    let f = c .before .before .before .before .before .curve-at .result in
+    let is : f ≡ holding (curveNamed s (so .0 .curves) (a .curve)) = c .before .before .before .before .before .curve-at .ensures
     ∙ ap (λ (b : Book). holding (curveNamed s (b .places .curves) (a .curve))) (so .2)
     ∙ ap holding (named-array s (so .0 .curves) (a .curve) (named at)) in
-    let back = ap curveOf is ∙ holding-back (curveNamed s (so .0 .curves) (a .curve)) (named-well (sound-book s (so .0) (so .1)) (a .curve) (named at)) in
-    ap (λ (v : ℕ). asked.Value (record { 0 = v })) (c .value-at .ensures ∙ ap (λ (f : Curve). value f (a .tick)) back)
+    let well : WellFormed (curveNamed s (so .0 .curves) (a .curve)) = named-well (sound-book s (so .0) (so .1)) (a .curve) (named at) in
+    let back : curveOf f ≡ curveNamed s (so .0 .curves) (a .curve) = ap curveOf is ∙ holding-back (curveNamed s (so .0 .curves) (a .curve)) well in
+    ap (λ (v : ℕ). asked.Value (record { 0 = v }))
+    (c .value-at .ensures ∙ value-held (stepsIn f) (subst WellFormed (sym back) well) (a .tick) (omega arith) ∙ ap (λ (g : Curve). value g (a .tick)) back)
     ∙ sym (asked-value s (a .curve) (a .tick) (so .0) (so .1) (named at) (omega arith))
 
 pub value-in-spec : {M : Type 1} → statement M
@@ -104,6 +108,6 @@ value-in-spec =
     element-copy-out-place
     cast-curve-at
     curve-at-requires
-    cast-t28
+    cast-at
     value-at-requires
     returns-4)

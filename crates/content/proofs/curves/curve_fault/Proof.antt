@@ -3,15 +3,12 @@ use mathlib.Core.List.{List}
 use mathlib.Core.Bool.{false}
 use mathlib.Core.Path.{_≡_, sym, ap, ap₂, _∙_}
 use native.Mathlib.Omega.{arith}
-use native.Mathlib.Nat.{min-eq-left}
 use lib.ListN.{length, take}
 use lib.Dec.{ltb}
 use denote.Ref.{now}
 use borrow.Author.Tests.{eq-eqb, ne-eqb, lt-ltb, le-ltb}
 use Rattle.minplus.specs.Curve.{maxListed}
-use Rattle.curve.specs.declared.Curve.{Curve}
 use Rattle.curve.specs.Filled.{listOf, filled, length-listOf, filled-length, filled-taken}
-use Rattle.curve.specs.Held.{padded-listed}
 use Rattle.content.specs.Layout.{rankIn, periodIn, countIn, valueIn, curveHead}
 use Rattle.content.specs.Sound.{span-fits}
 use Rattle.content.specs.Refusals.{noSpan, limitFault, curveFault}
@@ -35,26 +32,20 @@ fits : (c : tie.Else2) → countIn (content (c .before .before .before .before))
 fits c = let bytes = content (c .before .before .before .before) in span-fits (rankIn bytes) (periodIn bytes) (sym (spans (c .before)) ∙ c .if2 .left) .1
 
 -- the working array has the values of the content, and what is taken of it is those
-array : (c : tie.After-curve-in) → c .curve-in .result .listed
-    ≡ filled (valueIn (content (c .before .before .before .before .before .before))) maxListed (countIn (content (c .before .before .before .before .before .before)))
-array c =
-    let bytes = content (c .before .before .before .before .before .before) in
-    ap (λ (f : Curve). f .listed) (c .curve-in .ensures) ∙ padded-listed (valueIn bytes) (countIn bytes)
-    ∙ ap (filled (valueIn bytes) maxListed) (min-eq-left (fits (c .before .before)))
+array : (c : tie.After-values-in) → c .values-in .result ≡ filled (valueIn (content (c .before .before .before .before .before .before .before))) maxListed (countIn (content (c .before .before .before .before .before .before .before)))
+array c = c .values-in .ensures ∙ ap (filled (valueIn (content (c .before .before .before .before .before .before .before))) maxListed) (count (c .before .before .before))
 
-taken : (c : tie.After-curve-in) → take (c .before .before .before .before .before .number2 .result + c .before .before .before .before .number22 .result) (c .curve-in .result .listed)
-    ≡ listOf (valueIn (content (c .before .before .before .before .before .before))) (countIn (content (c .before .before .before .before .before .before)))
+taken : (c : tie.After-values-in) → take (c .before .before .before .before .before .before .number2 .result + c .before .before .before .before .before .number22 .result) (c .values-in .result)
+    ≡ listOf (valueIn (content (c .before .before .before .before .before .before .before))) (countIn (content (c .before .before .before .before .before .before .before)))
 taken c =
-    let bytes = content (c .before .before .before .before .before .before) in
-    ap₂ take (count (c .before .before)) (array c) ∙ filled-taken (valueIn bytes) maxListed (countIn bytes)
+    let bytes = content (c .before .before .before .before .before .before .before) in
+    ap₂ take (count (c .before .before .before)) (array c) ∙ filled-taken (valueIn bytes) maxListed (countIn bytes)
 
-taken-all : (c : tie.After-curve-in)
-    → let rank = c .before .before .before .before .before .number2 .result in
-    let period = c .before .before .before .before .number22 .result in
-    length (take (rank + period) (c .curve-in .result .listed)) ≡ rank + period
+taken-all : (c : tie.After-values-in)
+    → let n : ℕ = c .before .before .before .before .before .before .number2 .result + c .before .before .before .before .before .number22 .result in length (take n (c .values-in .result)) ≡ n
 taken-all c =
-    let bytes = content (c .before .before .before .before .before .before) in
-    ap length (taken c) ∙ length-listOf (valueIn bytes) (countIn bytes) ∙ sym (count (c .before .before))
+    let bytes = content (c .before .before .before .before .before .before .before) in
+    ap length (taken c) ∙ length-listOf (valueIn bytes) (countIn bytes) ∙ sym (count (c .before .before .before))
 
 returns : tie.Need-returns
 unfolding curveFault
@@ -98,29 +89,32 @@ returns-3 c =
     let bytes = content (spanning .before .before .before .before) in
     rw (long (spanning .before .before .before .before), sym (spans (spanning .before)) ∙ spanning .if2 .left, ne-eqb (length bytes) (curveHead + 4 * countIn bytes) (λ e. omega (arith, e, count spanning, c .if3 .taken)))
 
-curve-in-requires : tie.Need-curve-in-requires
-curve-in-requires c κs = search needs
+number4-requires : tie.Need-number4-requires
+number4-requires c κs = search needs
+
+values-in-requires : tie.Need-values-in-requires
+values-in-requires c κs = let spanning = c .before .before in omega (arith, count spanning, fits spanning)
 
 cast-limit-fault : tie.Need-cast-limit-fault
 cast-limit-fault c = search needs
 
-array-share-prefix-listed : tie.Need-array-share-prefix-listed
-array-share-prefix-listed c =
-    let at = c .before .before in
-    let bytes = content (at .before .before .before .before .before .before) in
-    rw (array at, filled-length (valueIn bytes) maxListed (countIn bytes) (fits (at .before .before)), count (at .before .before)) (fits (at .before .before))
+array-share-prefix-values : tie.Need-array-share-prefix-values
+array-share-prefix-values c =
+    let spanning = c .before .before .before in
+    let bytes = content (spanning .before .before .before .before) in
+    rw (array c, filled-length (valueIn bytes) maxListed (countIn bytes) (fits spanning), count spanning) (fits spanning)
 
 slice-aggregate-limit-fault : tie.Need-slice-aggregate-limit-fault
-slice-aggregate-limit-fault c = sym (taken-all (c .before .before .before))
+slice-aggregate-limit-fault c = sym (taken-all (c .before))
 
 limit-fault-requires : tie.Need-limit-fault-requires
-limit-fault-requires c κs = taken-all (c .before .before .before)
+limit-fault-requires c κs = search needs
 
 returns-4 : tie.Need-returns-4
 unfolding curveFault
 returns-4 c =
-    let at = c .before .before .before .before in
-    let sized = at .before in
+    let at = c .before .before in
+    let sized = at .before .before in
     let spanning = sized .before in
     let bytes = content (spanning .before .before .before .before) in
     rw (long (spanning .before .before .before .before), sym (spans (spanning .before)) ∙ spanning .if2 .left, eq-eqb (length bytes) (curveHead + 4 * countIn bytes) (omega (arith, count spanning, sized .if3 .left)))
@@ -128,7 +122,7 @@ returns-4 c =
     ∙ (λ i. limitFault (record {
       rank = spanning .before .before .before .number2 .ensures .0 i;
       period = spanning .before .before .number22 .ensures .0 i;
-      increment = at .curve-in .ensures i .increment;
+      increment = at .before .number4 .ensures i;
       listed = taken at i;
     })))
 
@@ -148,9 +142,10 @@ curve-fault-spec =
     mul-if3
     add-if3
     returns-3
-    curve-in-requires
+    number4-requires
+    values-in-requires
     cast-limit-fault
-    array-share-prefix-listed
+    array-share-prefix-values
     slice-aggregate-limit-fault
     limit-fault-requires
     returns-4)

@@ -1,108 +1,78 @@
-use Prim.Native.Nat.{_+_, _-_, _≤_, min}
-use mathlib.Core.Path.{_≡_, sym, ap}
+use Prim.Native.Nat.{_+_, min}
+use mathlib.Core.Path.{_≡_, sym, ap, _∙_}
 use mathlib.Core.Logic.{⊎-elim}
 use native.Mathlib.Omega.{arith}
-use lib.ListN.{length}
+use lib.ListN.{length, take}
 use lib.Seq.{length-take-le}
 use denote.Ref.{now}
-use Rattle.curve.specs.Filled.{filled, filled-none, filled-more, filled-length}
-use Rattle.curve.specs.Held.{padded-filled}
-use Rattle.content.specs.Layout.{valueIn, countIn}
+use Rattle.curve.specs.Filled.{listOf, filled-length, filled-taken}
+use Rattle.curve.specs.Held.{holding, holding-listed}
+use Rattle.content.specs.Layout.{rankIn, periodIn, incrementIn, countIn, valueIn}
+use borrow.Author.Needs.{needs}
 use Rattle.content.proofs.curves.curve_in.Statement.{statement}
 use Rattle.content.proofs.curves.curve_in.Tie as tie
-use borrow.Author.Needs.{needs}
 
-abbrev Inv-loop : tie.InvT-loop
-Inv-loop content rank period increment count values₀ n₀ values n =
-    (n ≤ count) × ((count ≡ min (rank + period) 256) × (values ≡ filled (valueIn content) 256 n))
+-- so many values are held
+held : (c : tie.Joined1) → c .if1 .held ≡ min (c .before .before .before .number2 .result + c .before .before .number22 .result) 256
+held c = ⊎-elim (λ w. omega arith) (λ w. omega arith) (c .if1 .came)
 
-abbrev μ-loop : tie.MeasureT-loop
-μ-loop content rank period increment count values₀ n₀ values n = count - n
+-- and what is taken of the array is those
+taken : (c : tie.After-values-in) → take (c .before .if1 .held) (c .values-in .result) ≡ listOf (valueIn (now (c .before .before .before .before .before .before .args .content))) (c .before .if1 .held)
+taken c =
+    ap (take (c .before .if1 .held)) (c .values-in .ensures) ∙ filled-taken (valueIn (now (c .before .before .before .before .before .before .args .content))) 256 (c .before .if1 .held)
 
-number2-requires : tie.Need-number2-requires Inv-loop μ-loop
+long : (c : tie.After-values-in) → length (c .values-in .result) ≡ 256
+long c = ap length (c .values-in .ensures) ∙ filled-length (valueIn (now (c .before .before .before .before .before .before .args .content))) 256 (c .before .if1 .held) (omega (arith, held (c .before)))
+
+number2-requires : tie.Need-number2-requires
 number2-requires c κs = search needs
 
-number2-requires-2 : tie.Need-number2-requires-2 Inv-loop μ-loop
+number2-requires-2 : tie.Need-number2-requires-2
 number2-requires-2 c κs = search needs
 
-number4-requires : tie.Need-number4-requires Inv-loop μ-loop
+number4-requires : tie.Need-number4-requires
 number4-requires c κs = search needs
 
-add-held : tie.Need-add-held Inv-loop μ-loop
-add-held c = omega arith
+add-held : tie.Need-add-held
+add-held c = search needs
 
-cast-held : tie.Need-cast-held Inv-loop μ-loop
+cast-held : tie.Need-cast-held
 cast-held c = search needs
 
-loop-holds : tie.Need-loop-holds Inv-loop μ-loop
-loop-holds c = (
-  omega arith,
-  (⊎-elim (λ w. omega arith) (λ w. omega arith) (c .if1 .came), sym (filled-none (valueIn (now (c .before .before .before .before .before .args .content))) 256)),
-)
+values-in-requires : tie.Need-values-in-requires
+values-in-requires c κs = omega (arith, held c)
 
-listed-in-requires : tie.Need-listed-in-requires Inv-loop μ-loop
-listed-in-requires c κs = search needs
+array-share-prefix-values : tie.Need-array-share-prefix-values
+array-share-prefix-values c = omega (arith, long c, held (c .before))
 
-mul-values : tie.Need-mul-values Inv-loop μ-loop
-mul-values c = omega arith
+slice-aggregate-new : tie.Need-slice-aggregate-new
+slice-aggregate-new c = sym (length-take-le _ _ (omega (arith, long (c .before), held (c .before .before))))
 
-array-write-values : tie.Need-array-write-values Inv-loop μ-loop
-array-write-values c = omega arith
-
-add-n : tie.Need-add-n Inv-loop μ-loop
-add-n c = omega arith
-
-loop-less : tie.Need-loop-less Inv-loop μ-loop
-loop-less c = omega arith
-
-loop-again : tie.Need-loop-again Inv-loop μ-loop
-loop-again c =
-    let now-at = c .before .before .loop in
-    let F = valueIn (now (c .before .before .before .before .before .before .before .before .args .content)) in
-    (omega arith, (now-at .inv .1 .0, rw (c .listed-in .ensures, now-at .inv .1 .1) (filled-more F 256 (now-at .n) (omega arith))))
-
-array-share-prefix-values : tie.Need-array-share-prefix-values Inv-loop μ-loop
-array-share-prefix-values c =
-    let now-at = c .before .loop in
-    let F = valueIn (now (c .before .before .before .before .before .before .before .args .content)) in
-    omega (arith, ap length (now-at .inv .1 .1), filled-length F 256 (now-at .n) (omega arith))
-
-slice-aggregate-new : tie.Need-slice-aggregate-new Inv-loop μ-loop
-slice-aggregate-new c =
-    let now-at = c .before .before .loop in
-    let F = valueIn (now (c .before .before .before .before .before .before .before .before .args .content)) in
-    sym (length-take-le _ _ (omega (arith, ap length (now-at .inv .1 .1), filled-length F 256 (now-at .n) (omega arith))))
-
-new-requires : tie.Need-new-requires Inv-loop μ-loop
+new-requires : tie.Need-new-requires
 new-requires c κs = search needs
 
-returns : tie.Need-returns Inv-loop μ-loop
+returns : tie.Need-returns
 returns c =
-    let now-at = c .before .before .before .loop in
-    let c₄ = c .before .before .before .before .before in
-    let content = now (c₄ .before .before .before .before .args .content) in
-    let e : c .before .before .before .before .if1 .held ≡ now-at .n = omega arith in
-    let listed = padded-filled (valueIn content) (now-at .n) (countIn content) (omega arith) in
-    rw (c .new .ensures, e, now-at .inv .1 .1, listed, c₄ .before .before .number2 .ensures .0, c₄ .before .number22 .ensures .0, c₄ .number4 .ensures)
+    let at = c .before .before in
+    let counted = at .before in
+    let content = now (at .before .before .before .before .before .before .args .content) in
+    let rank = counted .before .before .before .number2 .ensures .0 in
+    let period = counted .before .before .number22 .ensures .0 in
+    c .new .ensures
+    ∙ (λ i. holding (record { rank = rank i; period = period i; increment = counted .before .number4 .ensures i; listed = taken at i }))
+    ∙ holding-listed (rankIn content) (periodIn content) (incrementIn content) (valueIn content) (counted .if1 .held) (countIn content)
+    (omega (arith, held counted, rank, period))
 
 pub curve-in-spec : {M : Type 1} → statement M
 curve-in-spec =
     tie.close
     (tie.spec
-    Inv-loop
-    μ-loop
     number2-requires
     number2-requires-2
     number4-requires
     add-held
     cast-held
-    loop-holds
-    listed-in-requires
-    mul-values
-    array-write-values
-    add-n
-    loop-less
-    loop-again
+    values-in-requires
     array-share-prefix-values
     slice-aggregate-new
     new-requires

@@ -1,12 +1,8 @@
-use Prim.Native.Nat.{ℕ, _+_}
 use mathlib.Core.Bool.{Bool, not}
-use mathlib.Core.List.{List}
 use mathlib.Core.Path.{_≡_, sym, ap, _∙_}
-use native.Mathlib.Omega.{arith}
-use lib.Seq.{take-all}
 use denote.Ref.{now}
 use borrow.Author.Tests.{lt-ltb, le-ltb}
-use Rattle.minplus.specs.Curve.{Curve, maxUnits, seamHolds}
+use Rattle.minplus.specs.Curve.{Curve, maxUnits}
 use Rattle.content.specs.declared.Checked.the-variants.{Sound}
 use Rattle.content.specs.declared.Refusal.the-variants.{CurveFalls}
 use Rattle.content.specs.Refusals.{limitFault, on}
@@ -49,20 +45,12 @@ given c =
     let a = c .before .before .before .before .before .before .before .args in
     record { rank = a .rank; period = a .period; increment = a .increment; listed = now (a .values) }
 
--- of the list that is lent all is held: it has T+d values
-seam : (c : tie.After-seam-holds) → c .seam-holds .result ≡ seamHolds (given c)
-seam c =
-    let start = c .before .before .before .before .before .before .before in
-    let a = start .args in
-    c .seam-holds .ensures
-    ∙ ap (λ (l : List ℕ). seamHolds (record { rank = a .rank; period = a .period; increment = a .increment; listed = l })) (take-all (a .rank + a .period) (now (a .values)) (omega (arith, start .pre)))
-
 -- where all tests before it have passed, the seam decides
 last : (c : tie.After-seam-holds) → limitFault (given c) ≡ on (not (c .seam-holds .result)) CurveFalls Sound
 unfolding limitFault
 last c =
     let s = c .before .before .before .before .before in
-    rw (le-ltb maxUnits (s .before .before .args .increment) (s .if1 .left), ← (c .before .before .before .before .values-fit .ensures), c .before .before .before .if2 .left, ← (c .before .before .values-rise .ensures), c .before .if3 .left, ← (seam c))
+    rw (le-ltb maxUnits (s .before .before .args .increment) (s .if1 .left), ← (c .before .before .before .before .values-fit .ensures), c .before .before .before .if2 .left, ← (c .before .before .values-rise .ensures), c .before .if3 .left, ← (c .seam-holds .ensures))
 
 returns-4 : tie.Need-returns-4
 returns-4 c = sym (last (c .before) ∙ ap (λ (falls : Bool). on falls CurveFalls Sound) (c .if4 .taken))

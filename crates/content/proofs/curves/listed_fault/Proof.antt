@@ -37,7 +37,7 @@ cast-limit-fault-2 : tie.Need-cast-limit-fault-2
 cast-limit-fault-2 c = omega (arith, small (c .before))
 
 limit-fault-requires : tie.Need-limit-fault-requires
-limit-fault-requires c κs = c .if2 .left
+limit-fault-requires c κs = search needs
 
 returns-3 : tie.Need-returns-3
 unfolding listedFault

@@ -1,70 +1,30 @@
-use Prim.Native.Nat.{ℕ, _-_, _≤_, min}
+use Prim.Native.Nat.{ℕ}
 use mathlib.Core.Path.{_≡_, sym, ap, _∙_}
 use mathlib.Core.List.{List}
 use mathlib.Core.Logic.{⊎-elim}
 use native.Mathlib.Omega.{arith}
-use lib.ListN.{length, getD}
+use lib.ListN.{length, take}
+use lib.Seq.{length-take-le, take-all}
 use denote.Ref.{now}
-use Rattle.curve.specs.Filled.{filled, filled-none, filled-more}
+use Rattle.minplus.specs.Curve.{maxListed}
+use Rattle.curve.specs.Held.{heldFrom}
+use borrow.Author.Needs.{needs}
 use Rattle.curve.proofs.Curve.new.Statement.{statement}
 use Rattle.curve.proofs.Curve.new.Tie as tie
 
-abbrev Inv-loop : tie.InvT-loop
-Inv-loop rank period increment values listed₀ count n₀ listed n =
-    (n ≤ count) × ((count ≡ min (length values) 256) × (listed ≡ filled (λ i. getD values i 0) 256 n))
+slice-aggregate-held-from : tie.Need-slice-aggregate-held-from
+slice-aggregate-held-from c = sym (length-take-le _ _ (⊎-elim (λ w. omega arith) (λ w. omega arith) (c .before .if1 .came)))
 
-abbrev μ-loop : tie.MeasureT-loop
-μ-loop rank period increment values listed₀ count n₀ listed n = count - n
+held-from-requires : tie.Need-held-from-requires
+held-from-requires c κs = search needs
 
-loop-holds : tie.Need-loop-holds Inv-loop μ-loop
-loop-holds c = (
-  omega arith,
-  (⊎-elim (λ w. omega arith) (λ w. omega arith) (c .if1 .came), sym (filled-none (λ i. getD (now (c .before .args .values)) i 0) 256)),
-)
-
-mul-listed : tie.Need-mul-listed Inv-loop μ-loop
-mul-listed c = omega arith
-
-shared-slice-read-listed : tie.Need-shared-slice-read-listed Inv-loop μ-loop
-shared-slice-read-listed c = omega arith
-
-mul-listed-2 : tie.Need-mul-listed-2 Inv-loop μ-loop
-mul-listed-2 c = omega arith
-
-array-write-listed : tie.Need-array-write-listed Inv-loop μ-loop
-array-write-listed c = omega arith
-
-add-n : tie.Need-add-n Inv-loop μ-loop
-add-n c = omega arith
-
-loop-less : tie.Need-loop-less Inv-loop μ-loop
-loop-less c = omega arith
-
-loop-again : tie.Need-loop-again Inv-loop μ-loop
-loop-again c =
-    let now-at = c .before .before .loop in
-    let F : ℕ → ℕ = λ i. getD (now (c .before .before .before .before .args .values)) i 0 in
-    (omega arith, (now-at .inv .1 .0, rw (now-at .inv .1 .1) (filled-more F 256 (now-at .n) (omega arith))))
-
-returns : tie.Need-returns Inv-loop μ-loop
+returns : tie.Need-returns
 returns c =
-    let a = c .before .before .before .args in
-    let e : c .before .loop .n ≡ min (length (now (a .values))) 256 = omega arith in
-    ap (λ (l : List ℕ). record { rank = a .rank; period = a .period; increment = a .increment; listed = l })
-    (c .before .loop .inv .1 .1 ∙ ap (filled (λ i. getD (now (a .values)) i 0) 256) e)
+    let a = c .before .before .before .before .args in
+    let l = now (a .values) in
+    let same : take (c .before .before .if1 .listed) l ≡ take maxListed l =
+    ⊎-elim (λ w. ap (λ (n : ℕ). take n l) (w .1)) (λ w. ap (λ (n : ℕ). take n l) (w .1) ∙ take-all (length l) l (omega arith) ∙ sym (take-all maxListed l (omega arith))) (c .before .before .if1 .came) in
+    c .held-from .ensures ∙ ap (λ (x : List ℕ). heldFrom (record { rank = a .rank .0; period = a .period .0; increment = a .increment; listed = x })) same
 
 pub new-spec : {M : Type 1} → statement M
-new-spec =
-    tie.close
-    (tie.spec
-    Inv-loop
-    μ-loop
-    loop-holds
-    mul-listed
-    shared-slice-read-listed
-    mul-listed-2
-    array-write-listed
-    add-n
-    loop-less
-    loop-again
-    returns)
+new-spec = tie.close (tie.spec slice-aggregate-held-from held-from-requires returns)

@@ -1,38 +1,26 @@
-use mathlib.Core.Path.{sym}
-use native.Mathlib.Omega.{arith}
-use lib.Seq.{getD-take}
-use denote.Ref.{now}
-use Rattle.curve.proofs.Laws.{untaken}
 use borrow.Author.Needs.{needs}
+use Rattle.curve.specs.Steps.{risenTo, sum-same}
+use Prim.Native.Nat.{ℕ, _+_}
+use mathlib.Core.Path.{_≡_, ap, _∙_}
+use native.Mathlib.Omega.{arith}
+use lib.ListN.{getD}
+use denote.Ref.{now}
 use Rattle.curve.proofs.values.listed_at.Statement.{statement}
 use Rattle.curve.proofs.values.listed_at.Tie as tie
 
-mul-result : tie.Need-mul-result
-mul-result c = search needs
+risen-requires : tie.Need-risen-requires
+risen-requires c κs = search needs
 
-shared-slice-read-result : tie.Need-shared-slice-read-result
-shared-slice-read-result c = search needs
-
-cast-result : tie.Need-cast-result
-cast-result c = omega (arith, c .shared-slice-known .given (c .before .before .before .args .at))
+add-result : tie.Need-add-result
+add-result c = search needs
 
 returns : tie.Need-returns
-returns c = (
-  sym (getD-take (c .before .before .before .args .count) (now (c .before .before .before .args .listed)) (c .before .before .before .args .at) 0 (c .before .before .if1 .taken)),
-  omega (arith, c .shared-slice-known .given (c .before .before .before .args .at)),
-)
-
-returns-2 : tie.Need-returns-2
-returns-2 c =
-    let l = now (c .before .before .args .listed) in
-    (sym (untaken l (c .before .before .args .count) (c .before .before .args .at) (omega arith)), omega arith)
-
-returns-3 : tie.Need-returns-3
-returns-3 c =
-    let l = now (c .before .args .listed) in
-    (sym (untaken l (c .before .args .count) (c .before .args .at) (omega arith)), omega arith)
+unfolding risenTo
+returns c =
+    let a = c .before .before .args in
+    let l = now (a .rises) in
+    ap (λ (x : ℕ). a .first + x)
+    (c .risen .ensures .0 ∙ sum-same (λ i. getD l (0 + i) 0) (λ i. getD l i 0) (a .place) (λ i lt. let e : 0 + i ≡ i = omega arith in ap (λ (n : ℕ). getD l n 0) e))
 
 pub listed-at-spec : {M : Type 1} → statement M
-listed-at-spec =
-    tie.close
-    (tie.spec mul-result shared-slice-read-result cast-result returns returns-2 returns-3)
+listed-at-spec = tie.close (tie.spec risen-requires add-result returns)

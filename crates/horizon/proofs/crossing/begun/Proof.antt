@@ -1,11 +1,22 @@
 use Prim.Native.Nat.{ℕ, _*_}
-use mathlib.Core.Path.{ap}
+use mathlib.Core.Path.{_≡_, ap, _∙_}
+use native.Mathlib.Omega.{arith}
 use native.Mathlib.Nat.{lt-of-le-of-lt}
 use lib.Dec.{lit<}
+use Rattle.minplus.specs.Curve.{value, rank-fits}
+use Rattle.curve.specs.Held.{curveOf, stepsIn}
+use Rattle.curve.specs.Walks.{value-held}
 use Rattle.horizon.specs.Reach.{begun-fits}
 use borrow.Author.Needs.{needs}
 use Rattle.horizon.proofs.crossing.begun.Statement.{statement}
 use Rattle.horizon.proofs.crossing.begun.Tie as tie
+
+-- g(T')
+begins : (c : tie.After-value-at) → c .value-at .result .0 ≡ value (curveOf (c .before .before .before .before .before .before .before .before .args .t2)) (c .before .before .before .before .before .before .before .before .args .t2 .form .rank .0)
+begins c =
+    let g = c .before .before .before .before .before .before .before .before .args .t2 in
+    let w = c .before .before .before .before .before .before .before .before .pre .right in
+    c .value-at .ensures ∙ value-held (stepsIn g) w (g .form .rank .0) (omega (arith, rank-fits w))
 
 cast-d : tie.Need-cast-d
 cast-d c = search needs
@@ -16,22 +27,23 @@ cast-c c = search needs
 value-at-requires : tie.Need-value-at-requires
 value-at-requires c κs = search needs
 
-mul-t13 : tie.Need-mul-t13
-mul-t13 c = record { fits = rw (c .before .value-at .ensures) (lt-of-le-of-lt (begun-fits (c .before .before .before .before .before .before .before .before .before .before .pre) .0) (lit< tt)) }
+mul-plus : tie.Need-mul-plus
+mul-plus c = record { fits = rw (begins (c .before)) (lt-of-le-of-lt (begun-fits (c .before .before .before .before .before .before .before .before .before .pre) .0) (lit< tt)) }
 
-cast-t14 : tie.Need-cast-t14
-cast-t14 c = search needs
+cast-minus : tie.Need-cast-minus
+cast-minus c = search needs
 
-mul-t15 : tie.Need-mul-t15
-mul-t15 c = record { fits = lt-of-le-of-lt (begun-fits (c .before .before .before .before .before .before .before .before .before .before .before .pre) .1) (lit< tt) }
+mul-minus : tie.Need-mul-minus
+mul-minus c = record { fits = lt-of-le-of-lt (begun-fits (c .before .before .before .before .before .before .before .before .before .before .pre) .1) (lit< tt) }
 
 returns : tie.Need-returns
 returns c =
-    let a = c .before .before .before .before .before .before .before .before .before .before .before .args in
-    let fits = begun-fits (c .before .before .before .before .before .before .before .before .before .before .before .pre) in (
-      ap (λ (v : ℕ). record { plus = a .f .period .0 * v; minus = a .f .increment * a .t2 .rank .0 }) (c .before .before .value-at .ensures),
-      record { plus-fits = rw (c .before .before .value-at .ensures) (fits .0); minus-fits = fits .1 },
+    let a = c .before .before .before .before .before .before .before .before .before .before .args in
+    let fits = begun-fits (c .before .before .before .before .before .before .before .before .before .before .pre) in
+    let is = begins (c .before .before) in (
+      ap (λ (v : ℕ). record { plus = a .f .form .period .0 * v; minus = a .f .form .increment * a .t2 .form .rank .0 }) is,
+      record { plus-fits = rw is (fits .0); minus-fits = fits .1 },
     )
 
 pub begun-spec : {M : Type 1} → statement M
-begun-spec = tie.close (tie.spec cast-d cast-c value-at-requires mul-t13 cast-t14 mul-t15 returns)
+begun-spec = tie.close (tie.spec cast-d cast-c value-at-requires mul-plus cast-minus mul-minus returns)

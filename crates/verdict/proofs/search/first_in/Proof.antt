@@ -2,6 +2,7 @@
 -- finds the claim's first break.
 use borrow.Author.Needs.{needs}
 use denote.Ref.{now}
+use Rattle.curve.specs.Held.{stepsIn}
 use Rattle.verdict.proofs.Tables.{judged-break, judged-searchable}
 use Rattle.verdict.proofs.search.first_in.Statement.{statement}
 use Rattle.verdict.proofs.search.first_in.Tie as tie
@@ -23,7 +24,7 @@ first-difference-requires c κs =
     let a = c .before .before .before .before .before .before .before .before .before .before .before .before .before .before .before .before .before .before .args in
     let pre = c .before .before .before .before .before .before .before .before .before .before .before .before .before .before .before .before .before .before .pre in
     rw (c .before .before .before .before .before .before .before .before .before .before .before .before .before .put-values .ensures, c .before .before .before .before .before .before .before .before .before .put-values2 .ensures, c .before .before .before .before .before .put-values3 .ensures)
-    (judged-searchable (a .operation) (pre .0) (now (a .left)) (now (a .right)) (now (a .claimed)) (pre .1) (pre .2) (pre .3))
+    (judged-searchable (a .operation) (stepsIn (a .f)) (stepsIn (a .g)) (stepsIn (a .h)) (pre .0) (now (a .left)) (now (a .right)) (now (a .claimed)) (pre .1) (pre .2) (pre .3))
 
 same-length : tie.Need-same-length
 same-length c = search needs
@@ -38,7 +39,7 @@ returns : tie.Need-returns
 returns c =
     let a = c .before .before .before .before .before .before .before .before .before .before .before .before .before .before .before .before .before .before .before .args in
     let pre = c .before .before .before .before .before .before .before .before .before .before .before .before .before .before .before .before .before .before .before .pre in
-    rw (← judged-break (a .operation) (pre .0) (now (a .left)) (now (a .right)) (now (a .claimed)) (pre .1) (pre .2) (pre .3), ← c .before .before .before .before .before .before .before .before .before .before .before .before .before .before .put-values .ensures, ← c .before .before .before .before .before .before .before .before .before .before .put-values2 .ensures, ← c .before .before .before .before .before .before .put-values3 .ensures)
+    rw (← judged-break (a .operation) (stepsIn (a .f)) (stepsIn (a .g)) (stepsIn (a .h)) (pre .0) (now (a .left)) (now (a .right)) (now (a .claimed)) (pre .1) (pre .2) (pre .3), ← c .before .before .before .before .before .before .before .before .before .before .before .before .before .before .put-values .ensures, ← c .before .before .before .before .before .before .before .before .before .before .put-values2 .ensures, ← c .before .before .before .before .before .before .put-values3 .ensures)
     (c .first-difference .ensures)
 
 pub first-in-spec : {M : Type 1} → statement M
