@@ -122,7 +122,7 @@ pub fn curve_in(content: &[u8]) -> Curve
         held = Curve::MAX_LISTED;
     }
     let values = values_in(content, held);
-    Curve::new(Ticks(rank), Ticks(period), increment, &values[..held])
+    Curve::new(Ticks(rank), Ticks(period), increment, values)
 }
 
 pub fn curve_fault(content: &[u8]) -> Checked

@@ -8,14 +8,17 @@
 --     filled-length, filled-at     how long it is, and what is stored
 --     filled-taken       the stored part of it; filled-same: it depends on what is stored alone
 --     length-listOf, listOf-at     how long that list is, and what is at a place
+--     over F k s         s with F(0) to F(k-1) over its first k places: over-none, over-more, before the first store
+--                        and after one more; over-length, as many places as before; over-at, over-past: what is stored,
+--                        and what stays; over-same: it depends on what is stored alone
 use Prim.Native.Nat.{ℕ, zero, suc, _+_, _-_, _≤_, _<_}
 use mathlib.Core.Path.{_≡_, refl, sym, ap, _∙_}
 use mathlib.Core.List.{List, [], _∷_, _++_, append-assoc}
 use native.Mathlib.Omega.{arith}
 use native.Mathlib.Nat.{sub-zero}
 use native.Mathlib.Numerals.{add-one}
-use lib.ListN.{length, getD, set, take, replicate, length-append, length-replicate, List·getD-append}
-use lib.Seq.{set-at, getD-at, take-at}
+use lib.ListN.{length, getD, set, take, drop, replicate, length-append, length-drop, length-replicate, List·getD-append}
+use lib.Seq.{set-at, getD-at, take-at, append-snoc, drop-cons, getD-append-add, getD-drop}
 use borrow.Author.Count.{below-more}
 
 unfoldable pub inArray : ℕ → List ℕ → List ℕ
@@ -82,3 +85,39 @@ listOf-same F G (suc k) same = rw (listOf-same F G k (λ n lt. same n (omega ari
 pub filled-same : (F G : ℕ → ℕ) (room k : ℕ) → ((n : ℕ) → n < k → F n ≡ G n) → filled F room k ≡ filled G room k
 unfolding filled
 filled-same F G room k same = rw (listOf-same F G k same)
+
+-- ---- over what stands there
+
+unfoldable pub over : (ℕ → ℕ) → ℕ → List ℕ → List ℕ
+unfolding listOf
+over F k s = listOf F k ++ drop k s
+
+pub over-none : (F : ℕ → ℕ) (s : List ℕ) → over F 0 s ≡ s
+unfolding over
+over-none F s = refl
+
+pub over-more : (F : ℕ → ℕ) (k : ℕ) (s : List ℕ) → k < length s → set (over F k s) k (F k) ≡ over F (k + 1) s
+unfolding over
+over-more F k s lt =
+    rw (add-one k, drop-cons s k 0 lt)
+    (set-at (listOf F k) (getD s k 0) (drop (suc k) s) (F k) k (length-listOf F k) ∙ sym (append-snoc (listOf F k) (F k) (drop (suc k) s)))
+
+pub over-length : (F : ℕ → ℕ) (k : ℕ) (s : List ℕ) → k ≤ length s → length (over F k s) ≡ length s
+unfolding over
+over-length F k s le = simp (length-append, length-listOf F k, length-drop) (omega arith)
+
+pub over-at : (F : ℕ → ℕ) (k : ℕ) (s : List ℕ) (n : ℕ) → n < k → getD (over F k s) n 0 ≡ F n
+unfolding over
+over-at F k s n lt = List·getD-append (listOf F k) (drop k s) 0 n (omega (arith, length-listOf F k)) ∙ listOf-at F k n lt
+
+pub over-past : (F : ℕ → ℕ) (k : ℕ) (s : List ℕ) (n : ℕ) → k ≤ n → getD (over F k s) n 0 ≡ getD s n 0
+unfolding over
+over-past F k s n le =
+    let at : length (listOf F k) + (n - k) ≡ n = omega (arith, length-listOf F k) in
+    let there : k + (n - k) ≡ n = omega arith in
+    ap (λ (m : ℕ). getD (listOf F k ++ drop k s) m 0) (sym at) ∙ getD-append-add (listOf F k) (drop k s) (n - k) 0 ∙ getD-drop k s (n - k) 0
+    ∙ ap (λ (m : ℕ). getD s m 0) there
+
+pub over-same : (F G : ℕ → ℕ) (k : ℕ) (s : List ℕ) → ((n : ℕ) → n < k → F n ≡ G n) → over F k s ≡ over G k s
+unfolding over
+over-same F G k s same = ap (λ (l : List ℕ). l ++ drop k s) (listOf-same F G k same)

@@ -11,7 +11,8 @@
 --     closes s                  the rises of one period add up to c
 --     curveFrom s               the curve of a form (listedFrom: its list). Rises that do not close are no curve's:
 --                               nothing is listed then, so that the curve is not well formed (well-closes)
---     rise, riseOf, stepsOf     the form of a curve. A fall has no rise: the largest number of 32 bits stands there, and
+--     rise, riseOf, stepsOf,
+--     risesOver                 the form of a curve. A fall has no rise: the largest number of 32 bits stands there, and
 --                               no curve that is well formed has such a rise
 --     placeAt, placeAfter       which rise comes after a tick: one after the other, from the last one back to the T-th
 --     stepped s n               the first value and the sum of the n rises before n, which repeat from T on
@@ -29,14 +30,14 @@ use mathlib.Core.List.{List, [], _∷_}
 use native.Mathlib.Omega.{arith}
 use native.Mathlib.Nat.{zero-mod, mod-lt, mod-eq-of-lt, mod-self, suc-mod, add-mod-right, le-refl}
 use native.Mathlib.Decide.{decLe}
-use lib.ListN.{length, getD}
+use lib.ListN.{length, getD, set, List·getD-eq-default}
 use lib.Seq.{ext-getD}
 use lib.Dec.{ltb, eqb}
 use borrow.Author.Tests.{lt-ltb, le-ltb, ltb-true, ltb-false, eqb-true, eq-eqb}
 use Rattle.minplus.specs.Gains.{Gains}
 use Rattle.minplus.specs.Curve as C
 use Rattle.minplus.specs.Curve.{value, value-only, listedAt, count, WellFormed, maxListed, maxUnits}
-use Rattle.curve.specs.Filled.{listOf, length-listOf, listOf-at}
+use Rattle.curve.specs.Filled.{listOf, over, length-listOf, listOf-at, over-more, over-same}
 
 pub record Steps : Type 0 where
   pub rank : ℕ
@@ -90,6 +91,17 @@ riseOf f n = rise (listedAt f n) (nextOf f n)
 
 abbrev pub stepsOf : C.Curve → Steps
 stepsOf f = record { rank = f .rank; period = f .period; increment = f .increment; first = listedAt f 0; rises = listOf (riseOf f) (count f) }
+
+-- the rises from each listed value to the next, and what comes after the last one that there is
+abbrev pub riseWithin : List ℕ → ℕ → ℕ
+riseWithin l n = rise (getD l n 0) (getD l (suc n) 0)
+
+unfoldable pub afterLast : C.Curve → ℕ
+afterLast f = elim (ltb (length (f .listed)) (count f)) [ true ↦ 0 | false ↦ listedAt f (f .rank) + f .increment ]
+
+-- in the place of as many listed values as there are
+abbrev pub risesOver : C.Curve → List ℕ
+risesOver f = over (riseOf f) (min (count f) (length (f .listed))) (f .listed)
 
 unfoldable pub placeAfter : ℕ → ℕ → ℕ → ℕ
 placeAfter T d at = elim (ltb (suc at) (T + d)) [ true ↦ suc at | false ↦ T ]
@@ -311,6 +323,45 @@ module _ (f : C.Curve) (w : WellFormed f) where
 
   pub steps-good : Good (stepsOf f)
   steps-good = record { whole = length-listOf (riseOf f) (count f); well = subst WellFormed (sym steps-back) w }
+
+pub after-missing : (f : C.Curve) → length (f .listed) < count f → afterLast f ≡ 0
+unfolding afterLast
+after-missing f lt = rw (lt-ltb (length (f .listed)) (count f) lt, afterLast)
+
+pub after-seam : (f : C.Curve) → count f ≤ length (f .listed) → afterLast f ≡ listedAt f (f .rank) + f .increment
+unfolding afterLast
+after-seam f le = rw (le-ltb (length (f .listed)) (count f) le, afterLast)
+
+-- each but the last by itself, and then the last
+pub rises-last : (f : C.Curve) (last : ℕ) → suc last ≡ min (count f) (length (f .listed))
+    → set (over (riseWithin (f .listed)) last (f .listed)) last (rise (listedAt f last) (afterLast f)) ≡ risesOver f
+rises-last f last e =
+    let l : List ℕ = f .listed in
+    let inner : over (riseWithin l) last l ≡ over (riseOf f) last l =
+    over-same (riseWithin l) (riseOf f) last l (λ n lt. ap (rise (listedAt f n)) (sym (next-inside f n (omega (arith, lt, e))))) in
+    let after : afterLast f ≡ nextOf f last =
+    elim (decLe (count f) (length l)) [
+      | yes all ↦ after-seam f all ∙ sym (next-last f last (omega (arith, all, e)))
+      | no missing ↦
+          let short : length l < count f = omega (arith, missing) in
+          after-missing f short
+          ∙ sym (next-inside f last (omega (arith, short, e)) ∙ List·getD-eq-default l 0 (omega (arith, short, e)))
+    ] in
+    let more : last + 1 ≡ min (count f) (length l) = omega (arith, e) in
+    ap₂ (λ (s : List ℕ) (x : ℕ). set s last (rise (listedAt f last) x)) inner after
+    ∙ over-more (riseOf f) last l (omega (arith, e)) ∙ ap (λ (k : ℕ). over (riseOf f) k l) more
+
+-- two lists with the same T+d values have the same rises
+pub rise-same : (T d c : ℕ) (l l′ : List ℕ) → 1 ≤ d → ((k : ℕ) → k < T + d → getD l k 0 ≡ getD l′ k 0) → (n : ℕ) → n < T + d
+    → riseOf (record { rank = T; period = d; increment = c; listed = l }) n ≡ riseOf (record { rank = T; period = d; increment = c; listed = l′ }) n
+rise-same T d c l l′ positive same n lt =
+    let f : C.Curve = record { rank = T; period = d; increment = c; listed = l } in
+    let g : C.Curve = record { rank = T; period = d; increment = c; listed = l′ } in
+    ap₂ rise (same n lt) (elim (decLe (suc (suc n)) (T + d)) [
+      | yes inside ↦ next-inside f n inside ∙ same (suc n) inside ∙ sym (next-inside g n inside)
+      | no last ↦
+          next-last f n (omega (arith, last)) ∙ ap (λ (x : ℕ). x + c) (same T (omega arith)) ∙ sym (next-last g n (omega (arith, last)))
+    ])
 
 -- ---- a list that falls
 

@@ -1,7 +1,7 @@
 // Curves and claims as values, and what everything above asks of them: a value at a tick, a walk, a table of values,
 // which of two is slower. How a curve is held is known here alone.
 ghost use mathlib.Core.Path.{_≡_};
-ghost use Rattle.curve.specs.Held.{heldFrom, holding};
+ghost use Rattle.curve.specs.Held.{heldOver};
 ghost use Rattle.curve.specs.Kinds.{namedBy, limitedBy, within};
 
 pub mod listed;
@@ -9,8 +9,7 @@ pub mod rates;
 pub mod values;
 pub mod walks;
 
-use crate::listed::number_at;
-use crate::listed::rise_after;
+use crate::listed::put_rises;
 
 // A count of ticks. A count of units can't be passed for it.
 pub struct Ticks(pub u32);
@@ -39,42 +38,27 @@ impl Curve {
 
     pub const MAX_UNITS: u32 = 1_000_000;
 
-    // Of the first T+d values: one that is missing counts as 0, and those past the 256th are not looked at. A list that
-    // falls has no rises, and what is held of it is ill-formed.
-    pub fn new(rank: Ticks, period: Ticks, increment: u32, values: &[u32]) -> Curve
-        ensures { λ r. ⌜ r ≡ holding (record { rank = rank .0; period = period .0; increment = increment; listed = now (values .entry) }) ⌝ }
+    // Of the first T+d values of a working array. A list that falls has no rises, and what is held of it is ill-formed.
+    pub fn new(
+        rank: Ticks,
+        period: Ticks,
+        increment: u32,
+        values: [u32; Curve::MAX_LISTED],
+    ) -> Curve
+        ensures { λ r. ⌜ r ≡ heldOver (record { rank = rank .0; period = period .0; increment = increment; listed = values }) ⌝ }
     {
-        let mut listed = values.len();
-        if Curve::MAX_LISTED < listed {
-            listed = Curve::MAX_LISTED;
+        let mut rises = values;
+        let first = rises[0];
+        put_rises(rank, period, increment, &mut rises);
+        Curve {
+            form: Form {
+                rank,
+                period,
+                increment,
+                first,
+            },
+            rises,
         }
-        held_from(rank, period, increment, &values[..listed])
-    }
-}
-
-// As many rises as there is room for.
-fn held_from(rank: Ticks, period: Ticks, increment: u32, values: &[u32]) -> Curve
-    ensures { λ r. ⌜ r ≡ heldFrom (record { rank = rank .0; period = period .0; increment = increment; listed = now (values .entry) }) ⌝ }
-{
-    let mut rises = [0u32; Curve::MAX_LISTED];
-    let mut held = rank.0 as usize + period.0 as usize;
-    if Curve::MAX_LISTED < held {
-        held = Curve::MAX_LISTED;
-    }
-    let mut n: usize = 0;
-    while n < held {
-        rises[n] = rise_after(rank, period, increment, values, n);
-        n += 1;
-    }
-    let first = number_at(values, 0);
-    Curve {
-        form: Form {
-            rank,
-            period,
-            increment,
-            first,
-        },
-        rises,
     }
 }
 

@@ -1,10 +1,11 @@
 // A curve's listed values, as a field or a caller has them: the rises from each to the next, and whether it falls where
 // one period meets the next.
 ghost use mathlib.Core.Path.{_≡_};
-ghost use Prim.Native.Nat.{_+_, _<_, min};
-ghost use lib.ListN.{getD};
+ghost use Prim.Native.Nat.{_<_, min};
+ghost use lib.ListN.{getD, length};
 ghost use Rattle.minplus.specs.Curve.{seamHolds};
-ghost use Rattle.curve.specs.Steps.{largest, rise, riseOf, nextOf};
+ghost use Rattle.curve.specs.Filled.{over};
+ghost use Rattle.curve.specs.Steps.{largest, rise, riseWithin, afterLast, risesOver};
 use crate::Ticks;
 
 // 0 where there is none.
@@ -29,40 +30,63 @@ pub(crate) fn narrow(x: u64) -> u32
 }
 
 // A fall is no rise, and stands as the largest number: no curve within the limits has such a rise.
-fn rise(before: u64, after: u64) -> u32
+fn rise(before: u32, after: u32) -> u32
     ensures { λ r. ⌜ r ≡ rise before after ⌝ }
 {
     if after < before {
         return 4_294_967_295;
     }
-    narrow(after - before)
+    after - before
 }
 
-// What comes after the n-th listed value: the next one, and f(T)+c after the last.
-fn next_after(rank: Ticks, period: Ticks, increment: u32, values: &[u32], n: usize) -> u64
-    requires { ⌜ n < 256 ⌝ }
-    ensures { λ r. ⌜ r ≡ nextOf (record { rank = rank .0; period = period .0; increment = increment; listed = now (values .entry) }) n ⌝ }
+// The same over the seam, where what comes after may need more than 32 bits.
+fn rise_far(before: u32, after: u64) -> u32
+    ensures { λ r. ⌜ r ≡ rise before after ⌝ }
+{
+    if after < before as u64 {
+        return 4_294_967_295;
+    }
+    narrow(after - before as u64)
+}
+
+// Each of the first `count` values, turned into the rise to the next one.
+fn put_inner(values: &mut [u32], count: usize)
+    requires { ⌜ count < length (now values) ⌝ }
+    ensures { λ _. ⌜ now (values .exit) ≡ over (riseWithin (now (values .entry))) count (now (values .entry)) ⌝ }
+{
+    let mut n: usize = 0;
+    while n < count {
+        values[n] = rise(values[n], values[n + 1]);
+        n += 1;
+    }
+}
+
+// What comes after the last of so many values that are held: f(T)+c after all T+d of them; one that is missing is 0.
+fn after_last(rank: Ticks, period: Ticks, increment: u32, values: &[u32]) -> u64
+    ensures { λ r. ⌜ r ≡ afterLast (record { rank = rank .0; period = period .0; increment = increment; listed = now (values .entry) }) ⌝ }
 {
     let t = rank.0 as usize;
-    if n + 1 < t + period.0 as usize {
-        return number_at(values, n + 1) as u64;
+    if values.len() < t + period.0 as usize {
+        return 0;
     }
     number_at(values, t) as u64 + increment as u64
 }
 
-// The rise after the n-th listed value.
-pub(crate) fn rise_after(
-    rank: Ticks,
-    period: Ticks,
-    increment: u32,
-    values: &[u32],
-    n: usize,
-) -> u32
-    requires { ⌜ n < 256 ⌝ }
-    ensures { λ r. ⌜ r ≡ riseOf (record { rank = rank .0; period = period .0; increment = increment; listed = now (values .entry) }) n ⌝ }
+// Listed values, turned into the rises from each to the next, where they stand. What stands past T+d of them stays.
+pub(crate) fn put_rises(rank: Ticks, period: Ticks, increment: u32, values: &mut [u32])
+    ensures { λ _. ⌜ now (values .exit) ≡ risesOver (record { rank = rank .0; period = period .0; increment = increment; listed = now (values .entry) }) ⌝ }
 {
-    let after = next_after(rank, period, increment, values, n);
-    rise(number_at(values, n) as u64, after)
+    let mut held = rank.0 as usize + period.0 as usize;
+    if values.len() < held {
+        held = values.len();
+    }
+    if held == 0 {
+        return;
+    }
+    let after = after_last(rank, period, increment, values);
+    let last = held - 1;
+    put_inner(values, last);
+    values[last] = rise_far(values[last], after);
 }
 
 // f(T)+c, the first value of the next period, is not below f(T+d-1). The values before it are not looked at.

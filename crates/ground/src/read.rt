@@ -86,6 +86,6 @@ pub(crate) fn curve_at(line: &[u8], from: usize) -> Curve {
         Ticks(narrow(rank.value)),
         Ticks(narrow(period.value)),
         narrow(increment.value),
-        &values,
+        values,
     )
 }

@@ -24,9 +24,9 @@ fn accepted(turn: u64) -> bool {
     let first = (turn % 1000) as u32;
     let plain = rising(0);
     let raised = rising(first);
-    let left = Curve::new(Ticks(1), Ticks(255), 255, &raised);
-    let right = Curve::new(Ticks(15), Ticks(8), 8, &plain);
-    let claimed = Curve::new(Ticks(0), Ticks(1), 1, &raised);
+    let left = Curve::new(Ticks(1), Ticks(255), 255, raised);
+    let right = Curve::new(Ticks(15), Ticks(8), 8, plain);
+    let claimed = Curve::new(Ticks(0), Ticks(1), 1, raised);
     match verdict::verdict_on(Claim::Equals(Operation::Convolution), left, right, claimed) {
         verdict::Judged::Verdict(v) => {
             if let verdict::Verdict::Accepted = v {

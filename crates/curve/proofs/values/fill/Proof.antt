@@ -9,7 +9,8 @@ use Rattle.curve.specs.declared.walks.Walk.{Walk}
 use borrow.Author.Needs.{needs}
 use Rattle.curve.specs.Steps.{Steps, largest, stepped}
 use Rattle.curve.specs.Held.{heldAs}
-use Rattle.curve.specs.Table.{cell, over, over-none, over-more, over-length, tableOver, table-length}
+use Rattle.curve.specs.Filled.{over, over-none, over-more, over-length}
+use Rattle.curve.specs.Table.{cell, tableOver, table-length}
 use Rattle.curve.specs.Walks.{nextWalk, walkTo, walk-start, walk-more}
 use Rattle.curve.proofs.values.fill.Statement.{statement}
 use Rattle.curve.proofs.values.fill.Tie as tie
