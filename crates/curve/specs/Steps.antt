@@ -485,6 +485,15 @@ place-is T d positive (suc n) = elim (decLe T n) [
 pub place-early : (T d n : ℕ) → n ≤ T → min n T + (n - T) % d ≡ n
 place-early T d n le = omega (arith, ap (λ (x : ℕ). x % d) (sub-none n T le) ∙ zero-mod d)
 
+-- also where no curve has such a period
+pub place-most : (T d n : ℕ) → placeAt T d n ≤ T + d
+unfolding placeAt
+place-most T d zero = omega arith
+place-most T d (suc n) = elim (decLe (T + d) (suc (placeAt T d n))) [
+  | yes last ↦ omega (arith, after-last T d (placeAt T d n) last)
+  | no inside ↦ omega (arith, inside, after-in T d (placeAt T d n) (omega (arith, inside)))
+]
+
 pub place-inside : (T d : ℕ) → 1 ≤ d → (n : ℕ) → placeAt T d n < T + d
 place-inside T d positive n = omega (arith, place-is T d positive n, mod-lt (n - T) positive)
 

@@ -5,13 +5,12 @@
 --     nextWalk, walkOn   one tick on, and so many
 --     walkAt s n         a walk that stands at tick n: of a form whose curve is well formed it begins so (walk-begins) and
 --                        goes on so (walk-goes-on, walk-on), as long as ticks have 32 bits; value-held: so is one value
---     walkTo             a walk from the first value on, of any numbers (walk-start, walk-more), for a table
-use Prim.Native.Nat.{ℕ, zero, suc, _+_, _-_, _%_, _≤_, _<_, min}
+use Prim.Native.Nat.{ℕ, zero, suc, _+_, _-_, _%_, _<_, min}
 use mathlib.Core.Path.{_≡_, sym, ap, ap₂, _∙_}
 use native.Mathlib.Omega.{arith}
 use Rattle.minplus.specs.Curve as C
 use Rattle.curve.specs.declared.walks.Walk.{Walk}
-use Rattle.curve.specs.Steps.{Steps, curveFrom, placeAfter, placeAt, riseIn, stepped, valueBy, place-is, stepped-next, stepped-value, by-value}
+use Rattle.curve.specs.Steps.{Steps, curveFrom, placeAfter, placeAt, riseIn, valueBy, place-is, stepped-next, stepped-value, by-value}
 
 abbrev pub most : ℕ
 most = 18_446_744_073_709_551_615
@@ -32,20 +31,7 @@ walkOn s w (suc n) = nextWalk s (walkOn s w n)
 abbrev pub walkAt : Steps → ℕ → Walk
 walkAt s n = record { place = placeAt (s .rank) (s .period) n; value = record { 0 = C.value (curveFrom s) n } }
 
--- a walk from the first value on, of any numbers
-abbrev pub walkTo : Steps → ℕ → Walk
-walkTo s n = record { place = placeAt (s .rank) (s .period) n; value = record { 0 = min (stepped s n) most } }
-
 -- ---- laws
-
-pub walk-start : (s : Steps) → s .first ≤ most → record { place = 0; value = record { 0 = s .first } } ≡ walkTo s 0
-unfolding placeAt stepped
-walk-start s fits = ap (λ (v : ℕ). record { place = 0; value = record { 0 = v } }) (omega arith)
-
-pub walk-more : (s : Steps) (n : ℕ) → nextWalk s (walkTo s n) ≡ walkTo s (suc n)
-unfolding placeAt
-walk-more s n =
-    ap (λ (v : ℕ). record { place = placeAt (s .rank) (s .period) (suc n); value = record { 0 = v } }) (omega (arith, stepped-next s n))
 
 module _ (s : Steps) (w : C.WellFormed (curveFrom s)) where
   -- at a tick of 32 bits a value fits 64

@@ -13,7 +13,7 @@ use crate::Form;
 use crate::Ticks;
 use crate::Units;
 use crate::listed::narrow;
-use crate::walks::Walk;
+use crate::listed::number_at;
 
 // The sum of `count` rises from the `from`-th on. Those that the array lacks are 0.
 fn risen(rises: &[u32], from: usize, count: usize) -> u64
@@ -106,19 +106,22 @@ pub fn value_at(form: Form, rises: &[u32], tick: Ticks) -> Units
 pub fn fill(form: Form, rises: &[u32], out: &mut [u32])
     ensures { λ _. ⌜ now (out .exit) ≡ tableOver (stepped (heldAs form (now (rises .entry)))) (now (out .entry)) ⌝ }
 {
+    let t = form.rank.0 as usize;
+    let count = t + form.period.0 as usize;
     let mut end = out.len();
     if Claim::MAX_HORIZON + 1 < end {
         end = Claim::MAX_HORIZON + 1;
     }
-    let mut walk = Walk {
-        place: 0,
-        value: Units(form.first as u64),
-    };
+    let mut value = form.first as u64;
+    let mut place: usize = 0;
     let mut n: usize = 0;
     while n < end {
-        let value = walk.value;
-        out[n] = narrow(value.0);
-        walk = walk.next(form, rises);
+        out[n] = narrow(value);
+        value += number_at(rises, place) as u64;
+        place += 1;
+        if count <= place {
+            place = t;
+        }
         n += 1;
     }
 }

@@ -23,10 +23,10 @@ fn place_after(form: Form, place: usize) -> usize
 {
     let t = form.rank.0 as usize;
     let count = t + form.period.0 as usize;
-    if count <= place {
+    if count == 0 {
         return t;
     }
-    if place + 1 < count { place + 1 } else { t }
+    if place < count - 1 { place + 1 } else { t }
 }
 
 impl Walk {

@@ -18,8 +18,8 @@ add-count c = search needs
 returns : tie.Need-returns
 returns c = sym (after-last (c .before .before .before .args .form .rank .0) (c .before .before .before .args .form .period .0) _ (omega arith))
 
-add-if2 : tie.Need-add-if2
-add-if2 c = search needs
+sub-if2 : tie.Need-sub-if2
+sub-if2 c = search needs
 
 add-result : tie.Need-add-result
 add-result c = search needs
@@ -32,4 +32,4 @@ returns-3 c = let a = c .before .before .before .before .args in sym (after-last
 
 pub place-after-spec : {M : Type 1} → statement M
 place-after-spec =
-    tie.close (tie.spec cast-t cast-count add-count returns add-if2 add-result returns-2 returns-3)
+    tie.close (tie.spec cast-t cast-count add-count returns sub-if2 add-result returns-2 returns-3)
