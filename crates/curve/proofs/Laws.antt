@@ -4,7 +4,8 @@ use mathlib.Core.Path.{_≡_, ap, _∙_}
 use mathlib.Core.List.{List}
 use lib.ListN.{getD}
 use native.Mathlib.Omega.{arith}
-use native.Mathlib.Nat.{mul-le-mul, lt-of-lt-of-le, zero-div}
+use native.Mathlib.Nat.{mul-le-mul, lt-of-lt-of-le, div-eq-of-lt, zero-div}
+use native.Mathlib.Decide.{decLe}
 use lib.Dec.{lit≤}
 use Rattle.curve.specs.Steps.{sumTo}
 
@@ -17,9 +18,12 @@ product-fits {a} {b} ha hb =
 pub product-below : {a b : ℕ} → a < 2 ^ 32 → b < 2 ^ 32 → a * b < 2 ^ 64
 product-below ha hb = lt-of-lt-of-le (product-fits ha hb) (lit≤ tt)
 
--- before the rank no period is over
-pub div-none : (n T d : ℕ) → n ≤ T → (n - T) / d ≡ 0
-div-none n T d le = let none : n - T ≡ 0 = omega arith in rw none (zero-div d)
+-- in the first T+d ticks no period is over
+pub div-none : (n T d : ℕ) → n < T + d → (n - T) / d ≡ 0
+div-none n T d lt = elim (decLe 1 d) [
+  | yes positive ↦ div-eq-of-lt (omega (arith, lt, positive))
+  | no none ↦ let e : n - T ≡ 0 = omega (arith, lt, none) in rw e (zero-div d)
+]
 
 -- one more of the numbers from a place on
 pub sum-on : (l : List ℕ) (from i : ℕ) → from ≤ i

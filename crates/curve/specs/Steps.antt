@@ -481,9 +481,14 @@ place-is T d positive (suc n) = elim (decLe T n) [
       ap (placeAfter T d) here ∙ after-in T d n (omega (arith, before, positive)) ∙ omega (arith, still, before)
 ]
 
--- the same rule with its cases told apart
-pub place-early : (T d n : ℕ) → n ≤ T → min n T + (n - T) % d ≡ n
-place-early T d n le = omega (arith, ap (λ (x : ℕ). x % d) (sub-none n T le) ∙ zero-mod d)
+-- the same rule with its cases told apart: in the first T+d ticks the place is the tick
+pub place-early : (T d n : ℕ) → n < T + d → min n T + (n - T) % d ≡ n
+place-early T d n lt = elim (decLe 1 d) [
+  | yes positive ↦ let inside : n - T < d = omega (arith, lt, positive) in omega (arith, mod-eq-of-lt inside)
+  | no none ↦
+      let before : n ≤ T = omega (arith, lt, none) in
+      omega (arith, before, ap (λ (x : ℕ). x % d) (sub-none n T before) ∙ zero-mod d)
+]
 
 -- also where no curve has such a period
 pub place-most : (T d n : ℕ) → placeAt T d n ≤ T + d

@@ -2,12 +2,12 @@
 // lent, so that no call copies it. Each answers for any numbers: a value that 64 bits do not hold stands as their
 // largest number, and no well-formed curve has one.
 ghost use mathlib.Core.Path.{_≡_};
-ghost use Prim.Native.Nat.{_+_, _-_, _*_, _/_, _≤_, _<_, min};
+ghost use Prim.Native.Nat.{_+_, _*_, _≤_, _<_, min};
 ghost use lib.ListN.{getD};
 ghost use Rattle.curve.specs.Held.{heldAs};
 ghost use Rattle.curve.specs.Steps.{largest, sumTo, risenTo, closes, valueBy, stepped};
 ghost use Rattle.curve.specs.Table.{tableOver};
-ghost use Rattle.curve.specs.Walks.{most, placeBy};
+ghost use Rattle.curve.specs.Walks.{most, turnedTo};
 use crate::Claim;
 use crate::Form;
 use crate::Ticks;
@@ -50,36 +50,29 @@ pub fn closes(form: Form, rises: &[u32]) -> bool
     risen(rises, rank, form.period.0 as usize) == form.increment as u64
 }
 
-// The place in the list that a tick comes to. A period of 0 is no curve's.
-pub(crate) fn place_by(form: Form, tick: Ticks) -> u32
-    ensures { λ r. ⌜ r ≡ placeBy (form .rank .0) (form .period .0) (tick .0) ⌝ }
-{
-    let t = form.rank.0;
-    let d = form.period.0;
-    let n = tick.0;
-    if n < t {
-        return n;
-    }
-    if d == 0 {
-        return n;
-    }
-    t + (n - t) % d
+// Where a tick comes to: its place in the list, after so many whole periods since the rank.
+pub(crate) struct Turned {
+    pub(crate) place: u32,
+    pub(crate) turns: u32,
 }
 
-// The whole periods since the rank.
-fn turns(form: Form, tick: Ticks) -> u32
-    ensures { λ r. ⌜ r ≡ (tick .0 - form .rank .0) / form .period .0 ⌝ }
+// Below T+d the place is the tick, and nothing is divided. A period of 0 is no curve's.
+pub(crate) fn turn_by(form: Form, tick: Ticks) -> Turned
+    ensures { λ r. ⌜ r ≡ turnedTo (form .rank .0) (form .period .0) (tick .0) ⌝ }
 {
     let t = form.rank.0;
     let d = form.period.0;
     let n = tick.0;
-    if n < t {
-        return 0;
+    if (n as u64) < t as u64 + d as u64 {
+        return Turned { place: n, turns: 0 };
     }
     if d == 0 {
-        return 0;
+        return Turned { place: n, turns: 0 };
     }
-    (n - t) / d
+    let since = n - t;
+    let place = t + since % d;
+    let turns = since / d;
+    Turned { place, turns }
 }
 
 pub(crate) fn capped_sum(a: u64, b: u64) -> u64
@@ -92,13 +85,19 @@ pub(crate) fn capped_sum(a: u64, b: u64) -> u64
     }
 }
 
-// Whole periods by one multiplication, then the rises up to the tick's place in the list.
+// Whole periods by one multiplication, then the rises up to the place.
+pub(crate) fn value_after(form: Form, rises: &[u32], at: Turned) -> Units
+    ensures { λ r. ⌜ r .0 ≡ min (risenTo (form .first) (now (rises .entry)) (at .place) + at .turns * form .increment) most ⌝ }
+{
+    let listed = listed_at(form.first, rises, at.place);
+    let gained = at.turns as u64 * form.increment as u64;
+    Units(capped_sum(listed, gained))
+}
+
 pub fn value_at(form: Form, rises: &[u32], tick: Ticks) -> Units
     ensures { λ r. ⌜ r .0 ≡ min (valueBy (heldAs form (now (rises .entry))) (tick .0)) most ⌝ }
 {
-    let listed = listed_at(form.first, rises, place_by(form, tick));
-    let gained = turns(form, tick) as u64 * form.increment as u64;
-    Units(capped_sum(listed, gained))
+    value_after(form, rises, turn_by(form, tick))
 }
 
 // The values at the ticks from 0 on, by a running sum, over the places of `out`: at most 4,097 of them, and what stands

@@ -8,8 +8,8 @@ use crate::Ticks;
 use crate::Units;
 use crate::listed::number_at;
 use crate::values::capped_sum;
-use crate::values::place_by;
-use crate::values::value_at;
+use crate::values::turn_by;
+use crate::values::value_after;
 
 // The place of the rise that comes next, and the value before it.
 pub struct Walk {
@@ -34,8 +34,9 @@ impl Walk {
     pub fn at(form: Form, rises: &[u32], tick: Ticks) -> Walk
         ensures { λ r. ⌜ r ≡ walkBy (heldAs form (now (rises .entry))) (tick .0) ⌝ }
     {
-        let place = place_by(form, tick) as usize;
-        let value = value_at(form, rises, tick);
+        let begin = turn_by(form, tick);
+        let place = begin.place as usize;
+        let value = value_after(form, rises, begin);
         Walk { place, value }
     }
 
