@@ -1,11 +1,10 @@
 -- Laws that several functions' proofs cite, over plain numbers and lists.
-use Prim.Native.Nat.{ℕ, suc, _+_, _-_, _*_, _/_, _<_, _≤_, _^_}
+use Prim.Native.Nat.{ℕ, suc, _+_, _-_, _*_, _<_, _≤_, _^_}
 use mathlib.Core.Path.{_≡_, ap, _∙_}
 use mathlib.Core.List.{List}
 use lib.ListN.{getD}
 use native.Mathlib.Omega.{arith}
-use native.Mathlib.Nat.{mul-le-mul, lt-of-lt-of-le, div-eq-of-lt, zero-div}
-use native.Mathlib.Decide.{decLe}
+use native.Mathlib.Nat.{mul-le-mul, lt-of-lt-of-le}
 use lib.Dec.{lit≤}
 use Rattle.curve.specs.Steps.{sumTo}
 
@@ -17,13 +16,6 @@ product-fits {a} {b} ha hb =
 
 pub product-below : {a b : ℕ} → a < 2 ^ 32 → b < 2 ^ 32 → a * b < 2 ^ 64
 product-below ha hb = lt-of-lt-of-le (product-fits ha hb) (lit≤ tt)
-
--- in the first T+d ticks no period is over
-pub div-none : (n T d : ℕ) → n < T + d → (n - T) / d ≡ 0
-div-none n T d lt = elim (decLe 1 d) [
-  | yes positive ↦ div-eq-of-lt (omega (arith, lt, positive))
-  | no none ↦ let e : n - T ≡ 0 = omega (arith, lt, none) in rw e (zero-div d)
-]
 
 -- one more of the numbers from a place on
 pub sum-on : (l : List ℕ) (from i : ℕ) → from ≤ i

@@ -1,10 +1,12 @@
 -- The curve that the code's values stand for.
 --
---     heldAs, stepsIn, curveOf       a struct's numbers and an array of rises as a form; of a curve's; its curve. What stands in the array from T+d on counts for nothing (form-same)
---     heldOver                       a curve with its rises in the place of its values
---     padded, holding                a list in the working array (padded-listed: F(0) to F(k-1)); a curve in the working
---                                    copy. holding-back: of a well-formed one, it is that curve; holding-tells: of T+d
---                                    values, what is held is well formed exactly when they are
+--     heldAs, stepsIn, curveOf     numbers and an array of rises as a form; those of a struct; their curve. What stands
+--                                  in the array from T+d on counts for nothing (form-same)
+--     heldOver                     a curve with its rises in the place of its values
+--     padded, holding              a list in the working array (padded-listed: F(0) to F(k-1)), and a curve in the
+--                                  working copy
+--     holding-back                 of a well-formed curve, what is held is that curve
+--     holding-tells                of T+d values, what is held is well formed exactly when they are
 use Prim.Native.Nat.{ℕ, _+_, _≤_, _<_, min}
 use mathlib.Core.Path.{_≡_, sym, ap, _∙_, subst}
 use mathlib.Core.Bool.{Bool, true, false}
@@ -17,7 +19,8 @@ use Rattle.minplus.specs.Curve.{count, listedAt}
 use Rattle.curve.specs.declared.Curve.{Curve}
 use Rattle.curve.specs.declared.Form.{Form}
 use Rattle.curve.specs.Filled.{listOf, filled, length-listOf, listOf-at, listOf-same, filled-length, filled-at, filled-same, over-at}
-use Rattle.curve.specs.Steps.{Steps, sumTo, reached, risenTo, closes, listedFrom, curveFrom, riseOf, risesOver, rise-same, stepsOf, sum-same, steps-back, steps-tell}
+use Rattle.curve.specs.Steps.{Steps, sumTo, reached, risenTo, closes, listedFrom, curveFrom, sum-same}
+use Rattle.curve.specs.Rises.{riseOf, risesOver, rise-same, stepsOf, steps-back, steps-tell}
 
 abbrev pub heldAs : Form → List ℕ → Steps
 heldAs form rises = record { rank = form .rank .0; period = form .period .0; increment = form .increment; first = form .first; rises = rises }

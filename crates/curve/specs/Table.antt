@@ -12,7 +12,8 @@ use lib.ListN.{length, getD}
 use Rattle.minplus.specs.Curve as C
 use Rattle.minplus.specs.Horizon.{maxHorizon}
 use Rattle.curve.specs.Filled.{over, over-length, over-at}
-use Rattle.curve.specs.Steps.{Steps, largest, curveFrom, stepped, stepped-value}
+use Rattle.curve.specs.Steps.{Steps, largest, curveFrom, stepped}
+use Rattle.curve.specs.Stepped.{stepped-value}
 
 abbrev pub cell : (ℕ → ℕ) → ℕ → ℕ
 cell F n = min (F n) largest

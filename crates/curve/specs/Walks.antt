@@ -1,17 +1,19 @@
 -- A walk over a curve's ticks, as the code holds it: the place of the next rise, and the value.
 --
---     most               the largest number of 64 bits; a value that needs more stands as that one
---     placeBy, turnedTo, walkBy     where a walk begins at a tick, for any numbers
---     nextWalk, walkOn   one tick on, and so many
---     walkAt s n         a walk that stands at tick n: of a form whose curve is well formed it begins so (walk-begins) and
---                        goes on so (walk-goes-on, walk-on), as long as ticks have 32 bits; value-held: so is one value
+--     most                    the largest number of 64 bits; a value that needs more stands as that one
+--     turnedTo, walkBy        where a tick comes to (placeBy: its place), and a walk that begins there, of any numbers
+--     nextWalk, walkOn        one tick on, and so many
+--     walkAt s n              a walk that stands at tick n. Of a form whose curve is well formed it begins so
+--                             (walk-begins) and goes on so (walk-goes-on, walk-on), as long as ticks have 32 bits
+--     value-held              so is one value
 use Prim.Native.Nat.{ℕ, zero, suc, _+_, _-_, _/_, _%_, _<_, min}
 use mathlib.Core.Path.{_≡_, sym, ap, ap₂, _∙_}
 use native.Mathlib.Omega.{arith}
 use Rattle.minplus.specs.Curve as C
 use Rattle.curve.specs.declared.walks.Walk.{Walk}
 use Rattle.curve.specs.declared.values.Turned.{Turned}
-use Rattle.curve.specs.Steps.{Steps, curveFrom, placeAfter, placeAt, riseIn, valueBy, place-is, stepped-next, stepped-value, by-value}
+use Rattle.curve.specs.Steps.{Steps, curveFrom, placeAfter, placeAt, riseIn, valueBy}
+use Rattle.curve.specs.Stepped.{place-is, stepped-next, stepped-value, by-value}
 
 abbrev pub most : ℕ
 most = 18_446_744_073_709_551_615

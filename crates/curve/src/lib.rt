@@ -25,9 +25,8 @@ pub struct Form {
     pub first: u32,
 }
 
-// The working copy of a curve: its first value and its rises from tick to tick, with room for 256 whatever its rank. The
-// last of the T+d rises is that over the seam, and from the T-th on they repeat. What is held past them counts for
-// nothing.
+// The working copy of a curve: its rises from tick to tick, with room for 256 whatever its rank. The last of the T+d
+// rises is that over the seam, and from the T-th on they repeat. What is held past them counts for nothing.
 pub struct Curve {
     pub form: Form,
     pub rises: [u32; Curve::MAX_LISTED],

@@ -5,7 +5,8 @@ ghost use Prim.Native.Nat.{_<_, min};
 ghost use lib.ListN.{getD, length};
 ghost use Rattle.minplus.specs.Curve.{seamHolds};
 ghost use Rattle.curve.specs.Filled.{over};
-ghost use Rattle.curve.specs.Steps.{largest, rise, riseWithin, afterLast, risesOver};
+ghost use Rattle.curve.specs.Steps.{largest};
+ghost use Rattle.curve.specs.Rises.{rise, riseWithin, afterLast, risesOver};
 use crate::Ticks;
 
 // 0 where there is none.

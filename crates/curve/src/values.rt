@@ -36,7 +36,7 @@ fn risen(rises: &[u32], from: usize, count: usize) -> u64
 }
 
 // The listed value at a place: the first value and the rises before it.
-pub fn listed_at(first: u32, rises: &[u32], place: u32) -> u64
+fn listed_at(first: u32, rises: &[u32], place: u32) -> u64
     ensures { λ r. ⌜ r ≡ risenTo first (now (rises .entry)) place ⌝ }
 {
     first as u64 + risen(rises, 0, place as usize)

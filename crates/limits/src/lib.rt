@@ -9,8 +9,9 @@ ghost use Rattle.limits.specs.Told.{Told};
 use curve::Claim;
 use curve::Curve;
 use curve::Deviation;
+use curve::Ticks;
 use curve::values::closes;
-use curve::values::listed_at;
+use curve::values::value_at;
 
 // The values never fall, as no rise is below 0: the last listed one is the greatest.
 fn well_formed(f: Curve) -> bool
@@ -27,8 +28,9 @@ fn well_formed(f: Curve) -> bool
     if Curve::MAX_UNITS < form.increment {
         return false;
     }
-    let last = listed_at(form.first, &f.rises, (count - 1) as u32);
-    if (Curve::MAX_UNITS as u64) < last {
+    let last = (count - 1) as u32;
+    let greatest = value_at(form, &f.rises, Ticks(last));
+    if (Curve::MAX_UNITS as u64) < greatest.0 {
         return false;
     }
     closes(form, &f.rises)

@@ -1,12 +1,22 @@
-use mathlib.Core.Path.{sym, subst}
+use Prim.Native.Nat.{ℕ, _-_, min}
+use mathlib.Core.Path.{_≡_, sym, ap, _∙_, subst}
 use native.Mathlib.Omega.{arith}
 use Rattle.minplus.specs.Curve.{WellFormed}
-use Rattle.curve.specs.Steps.{closes, sized-well, well-sized, well-closes}
+use Rattle.curve.specs.Steps.{Steps, stepCount, reached, closes, sized-well, well-sized, well-closes}
+use Rattle.curve.specs.Stepped.{by-listed}
+use Rattle.curve.specs.Walks.{most}
 use Rattle.curve.specs.Held.{curveOf, stepsIn}
 use Rattle.limits.specs.Told.{Told, no, told-map, told-self}
 use borrow.Author.Needs.{needs}
 use Rattle.limits.proofs.well_formed.Statement.{statement}
 use Rattle.limits.proofs.well_formed.Tie as tie
+
+-- the last listed value
+greatest : (c : tie.After-value-at)
+    → let s : Steps = stepsIn (c .before .before .before .before .before .before .before .before .before .before .before .before .args .t1) in c .value-at .result .0 ≡ min (reached s (stepCount s - 1)) most
+greatest c =
+    let s : Steps = stepsIn (c .before .before .before .before .before .before .before .before .before .before .before .before .args .t1) in
+    c .value-at .ensures ∙ ap (λ (v : ℕ). min v most) (by-listed s (stepCount s - 1) (omega arith))
 
 cast-count : tie.Need-cast-count
 cast-count c = search needs
@@ -26,22 +36,22 @@ returns-2 c = no (λ w. omega (arith, w .count-fits))
 returns-3 : tie.Need-returns-3
 returns-3 c = no (λ w. omega (arith, w .increment-fits))
 
-sub-listed-at : tie.Need-sub-listed-at
-sub-listed-at c = search needs
+sub-last : tie.Need-sub-last
+sub-last c = search needs
 
-cast-listed-at : tie.Need-cast-listed-at
-cast-listed-at c = search needs
+cast-last : tie.Need-cast-last
+cast-last c = search needs
 
-listed-at-requires : tie.Need-listed-at-requires
-listed-at-requires c κs = search needs
+value-at-requires : tie.Need-value-at-requires
+value-at-requires c κs = search needs
 
 cast-if4 : tie.Need-cast-if4
 cast-if4 c = search needs
 
 returns-4 : tie.Need-returns-4
 returns-4 c =
-    let f = c .before .before .before .before .before .before .before .before .before .before .before .before .before .args .t1 in
-    no (λ w. absurd (omega (arith, well-sized {s = stepsIn f} w .last-fits, c .before .listed-at .ensures, c .if4 .taken)))
+    let f = c .before .before .before .before .before .before .before .before .before .before .before .before .before .before .args .t1 in
+    no (λ w. absurd (omega (arith, well-sized {s = stepsIn f} w .last-fits, greatest (c .before .before), c .if4 .taken)))
 
 closes-requires : tie.Need-closes-requires
 closes-requires c κs = search needs
@@ -49,14 +59,14 @@ closes-requires c κs = search needs
 returns-5 : tie.Need-returns-5
 returns-5 c =
     let at = c .before .before .before .before in
-    let f = at .before .before .before .before .before .before .before .before .before .before .before .before .before .args .t1 in
+    let f = at .before .before .before .before .before .before .before .before .before .before .before .before .before .before .args .t1 in
     subst (Told (WellFormed (curveOf f))) (sym (c .closes .ensures))
     (told-map
     (λ closed. sized-well {s = stepsIn f} (record {
       period-positive = omega arith;
       count-fits = omega arith;
       increment-fits = omega arith;
-      last-fits = omega (arith, at .before .listed-at .ensures, at .if4 .left);
+      last-fits = omega (arith, greatest (at .before .before), at .if4 .left);
       closed = closed;
     }))
     (λ w. well-closes (stepsIn f) w)
@@ -72,9 +82,9 @@ well-formed-spec =
     returns
     returns-2
     returns-3
-    sub-listed-at
-    cast-listed-at
-    listed-at-requires
+    sub-last
+    cast-last
+    value-at-requires
     cast-if4
     returns-4
     closes-requires

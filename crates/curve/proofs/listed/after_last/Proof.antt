@@ -1,6 +1,6 @@
 use mathlib.Core.Path.{sym}
 use denote.Ref.{now}
-use Rattle.curve.specs.Steps.{after-missing, after-seam}
+use Rattle.curve.specs.Rises.{after-missing, after-seam}
 use borrow.Author.Needs.{needs}
 use Rattle.curve.proofs.listed.after_last.Statement.{statement}
 use Rattle.curve.proofs.listed.after_last.Tie as tie

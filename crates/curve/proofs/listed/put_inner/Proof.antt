@@ -6,7 +6,7 @@ use native.Mathlib.Numerals.{add-one}
 use lib.ListN.{length, getD, length-set}
 use denote.Ref.{now}
 use Rattle.curve.specs.Filled.{over, over-none, over-more, over-past}
-use Rattle.curve.specs.Steps.{rise, riseWithin}
+use Rattle.curve.specs.Rises.{rise, riseWithin}
 use Rattle.curve.proofs.listed.put_inner.Statement.{statement}
 use Rattle.curve.proofs.listed.put_inner.Tie as tie
 

@@ -7,7 +7,7 @@ use lib.ListN.{length, getD, set}
 use denote.Ref.{now}
 use Rattle.minplus.specs.Curve.{Curve}
 use Rattle.curve.specs.Filled.{over, over-none, over-length, over-past}
-use Rattle.curve.specs.Steps.{rise, riseOf, riseWithin, afterLast, rises-last}
+use Rattle.curve.specs.Rises.{rise, riseOf, riseWithin, afterLast, rises-last}
 use borrow.Author.Needs.{needs}
 use Rattle.curve.proofs.listed.put_rises.Statement.{statement}
 use Rattle.curve.proofs.listed.put_rises.Tie as tie

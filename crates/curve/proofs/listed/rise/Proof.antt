@@ -1,6 +1,6 @@
 use mathlib.Core.Path.{sym}
 use native.Mathlib.Omega.{arith}
-use Rattle.curve.specs.Steps.{rise-falls, rise-holds}
+use Rattle.curve.specs.Rises.{rise-falls, rise-holds}
 use Rattle.curve.proofs.listed.rise.Statement.{statement}
 use Rattle.curve.proofs.listed.rise.Tie as tie
 

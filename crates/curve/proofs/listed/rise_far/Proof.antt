@@ -1,5 +1,5 @@
 use mathlib.Core.Path.{sym, _∙_}
-use Rattle.curve.specs.Steps.{rise-falls, rise-holds}
+use Rattle.curve.specs.Rises.{rise-falls, rise-holds}
 use borrow.Author.Needs.{needs}
 use Rattle.curve.proofs.listed.rise_far.Statement.{statement}
 use Rattle.curve.proofs.listed.rise_far.Tie as tie

@@ -8,7 +8,8 @@ use lib.ListN.{length}
 use denote.Ref.{now}
 use borrow.Author.Needs.{needs}
 use Rattle.curve.specs.Filled.{over, over-none, over-more, over-length}
-use Rattle.curve.specs.Steps.{Steps, largest, placeAt, riseIn, stepped, stepped-next, place-most, after-in, after-last}
+use Rattle.curve.specs.Steps.{Steps, largest, placeAt, riseIn, stepped}
+use Rattle.curve.specs.Stepped.{stepped-next, place-most, after-in, after-last}
 use Rattle.curve.specs.Table.{cell, tableOver, table-length}
 use Rattle.curve.proofs.values.fill.Statement.{statement}
 use Rattle.curve.proofs.values.fill.Tie as tie

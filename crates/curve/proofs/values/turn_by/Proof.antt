@@ -2,8 +2,7 @@ use Prim.Native.Nat.{ℕ, _-_, _/_, _%_}
 use mathlib.Core.Path.{_≡_, sym, ap, ap₂, _∙_}
 use native.Mathlib.Omega.{arith}
 use native.Mathlib.Nat.{mod-zero, mod-le, div-zero}
-use Rattle.curve.specs.Steps.{place-early}
-use Rattle.curve.proofs.Laws.{div-none}
+use Rattle.curve.specs.Stepped.{place-early, turns-none}
 use borrow.Author.Needs.{needs}
 use Rattle.curve.proofs.values.turn_by.Statement.{statement}
 use Rattle.curve.proofs.values.turn_by.Tie as tie
@@ -24,7 +23,7 @@ returns : tie.Need-returns
 returns c =
     let a = c .before .args in
     ap₂ (λ (p q : ℕ). record { place = p; turns = q }) (sym (place-early (a .form .rank .0) (a .form .period .0) (a .tick .0) (c .if1 .taken)))
-    (sym (div-none (a .tick .0) (a .form .rank .0) (a .form .period .0) (c .if1 .taken)))
+    (sym (turns-none (a .form .rank .0) (a .form .period .0) (a .tick .0) (c .if1 .taken)))
 
 returns-2 : tie.Need-returns-2
 returns-2 c =

@@ -2,7 +2,7 @@ use borrow.Author.Needs.{needs}
 use mathlib.Core.Path.{sym}
 use native.Mathlib.Omega.{arith}
 use native.Mathlib.Numerals.{add-one}
-use Rattle.curve.specs.Steps.{after-in, after-last}
+use Rattle.curve.specs.Stepped.{after-in, after-last}
 use Rattle.curve.proofs.walks.place_after.Statement.{statement}
 use Rattle.curve.proofs.walks.place_after.Tie as tie
 
