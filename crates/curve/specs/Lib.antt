@@ -8,3 +8,4 @@ pub mod Table
 pub mod Walks
 pub mod Claimed
 pub mod Kinds
+pub mod Ground
