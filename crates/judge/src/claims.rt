@@ -1,17 +1,15 @@
 // One claim of a sound book: its curves are read where they stand.
 ghost use mathlib.Core.Path.{_≡_};
 ghost use Prim.Native.Nat.{_<_};
-ghost use Rattle.minplus.specs.Claim.{WellFormedClaim};
-ghost use Rattle.minplus.specs.Verdict.{verdict, recordOf};
-ghost use Rattle.curve.specs.Claimed.{claimOf};
+ghost use Rattle.minplus.specs.Verdict.{recordOf};
 ghost use Rattle.curve.specs.Held.{holding};
-ghost use Rattle.verdict.specs.Given.{verdictOf, numbersOf};
+ghost use Rattle.verdict.specs.Given.{verdictOf, judgedOf, numbersOf};
 ghost use Rattle.field.specs.Steps.{maxCurves};
 ghost use Rattle.book.specs.Values.{curveNamed};
 ghost use Rattle.judge.specs.Claims.{verdictIn, StandsOver};
+ghost use Rattle.judge.specs.Held.{orUnjudged};
 use book::Places;
 use content::ClaimField;
-use curve::Claim;
 use curve::Curve;
 use field::places::claim_at;
 use field::places::curve_at;
@@ -30,11 +28,10 @@ fn curve_named(book: &[u8], places: Places, n: usize) -> Curve
 }
 
 // A well-formed claim has a verdict.
-fn verdict_over(claim: Claim, f: Curve, g: Curve, h: Curve) -> Verdict
-    requires { ⌜ WellFormedClaim (claimOf claim f g h) ⌝ }
-    ensures { λ r. ⌜ verdictOf r ≡ verdict (claimOf claim f g h) ⌝ }
+fn verdict_given(judged: Judged) -> Verdict
+    ensures { λ r. ⌜ verdictOf r ≡ orUnjudged (judgedOf judged) ⌝ }
 {
-    match verdict_on(claim, f, g, h) {
+    match judged {
         Judged::Verdict(v) => v,
         Judged::IllFormed => Verdict::NotJudged,
     }
@@ -52,5 +49,5 @@ pub(crate) fn record_at(book: &[u8], places: Places, curves: usize, place: usize
     let f = curve_named(book, places, stated.left);
     let g = curve_named(book, places, stated.right);
     let h = curve_named(book, places, stated.claimed);
-    record_of(verdict_over(claim, f, g, h))
+    record_of(verdict_given(verdict_on(claim, f, g, h)))
 }

@@ -4,9 +4,8 @@ ghost use Prim.Native.Nat.{_≤_, _<_};
 ghost use lib.ListN.{length};
 ghost use Rattle.minplus.specs.Claim.{atMost, exactly};
 ghost use Rattle.minplus.specs.Verdict.{lessHolds};
-ghost use Rattle.curve.specs.Steps.{curveFrom, stepped};
-ghost use Rattle.curve.specs.Held.{heldAs, stepsIn};
-ghost use Rattle.curve.specs.Table.{tableOver};
+ghost use Rattle.curve.specs.Steps.{curveFrom};
+ghost use Rattle.curve.specs.Held.{heldAs};
 ghost use Rattle.curve.specs.Claimed.{boundOf, claimOf, resultOf};
 ghost use Rattle.verdict.specs.Found.{foundOf, differs, dueIn, tableAt, Searchable};
 ghost use Rattle.verdict.specs.Break.{Comparable, Judgeable, breakOf, firstAbove, isNowhere, laterBy, moreBy};
@@ -81,13 +80,6 @@ fn first_difference(operation: Operation, f: &[u32], g: &[u32], h: &[u32], tried
     found
 }
 
-// The array is lent on, so that it is not copied again.
-fn put_values(f: Curve, table: &mut [u32])
-    ensures { λ _. ⌜ now (table .exit) ≡ tableOver (stepped (stepsIn f)) (now (table .entry)) ⌝ }
-{
-    fill(f.form, &f.rises, table);
-}
-
 // Kinds 1 to 3: the first tried tick that breaks the rule, in tables that are lent.
 fn first_in(
     operation: Operation,
@@ -102,9 +94,9 @@ fn first_in(
     requires { ⌜ Judgeable (resultOf operation f g h) horizon × (horizon < length (now left)) × (horizon < length (now right)) × (horizon < length (now claimed)) ⌝ }
     ensures { λ r. ⌜ r ≡ breakOf (resultOf operation f g h) ⌝ }
 {
-    put_values(f, left);
-    put_values(g, right);
-    put_values(h, claimed);
+    fill(f.form, &f.rises, left);
+    fill(g.form, &g.rises, right);
+    fill(h.form, &h.rises, claimed);
     let tried = horizon + 1;
     first_difference(operation, left, right, claimed, tried)
 }

@@ -10,7 +10,7 @@ use Rattle.content.specs.declared.ClaimField.the-variants as claim-field
 use Rattle.field.specs.Fields.{contentAt}
 use Rattle.content.specs.Refusals.{claimField}
 use Rattle.judge.specs.Claims.{claimOn, verdictFor, verdictIn}
-use Rattle.judge.specs.Held.{ClaimTold, claim-told, claim-held}
+use Rattle.judge.specs.Held.{ClaimTold, claim-told, claim-held, verdict-given}
 use borrow.Author.Needs.{needs}
 use Rattle.judge.proofs.claims.record_at.Statement.{statement}
 use Rattle.judge.proofs.claims.record_at.Tie as tie
@@ -67,8 +67,15 @@ claim-is c =
     claim-held (stated (c .before .before .before) .claim) _ _ _ (c .before .before .curve-named .ensures) (c .before .curve-named2 .ensures) (c .curve-named3 .ensures)
     (k .left-well) (k .right-well) (k .claimed-well)
 
-verdict-over-requires : tie.Need-verdict-over-requires
-verdict-over-requires c κs = subst WellFormedClaim (sym (claim-is c)) (known (c .before .before .before) .claim-well)
+verdict-on-requires : tie.Need-verdict-on-requires
+verdict-on-requires c κs = search needs
+
+verdict-given-requires : tie.Need-verdict-given-requires
+verdict-given-requires c κs = search needs
+
+-- and it is well formed
+well : (c : tie.After-curve-named3) → WellFormedClaim (claimOf (stated (c .before .before .before) .claim) (c .before .before .curve-named .result) (c .before .curve-named2 .result) (c .curve-named3 .result))
+well c = subst WellFormedClaim (sym (claim-is c)) (known (c .before .before .before) .claim-well)
 
 record-of-requires-2 : tie.Need-record-of-requires-2
 record-of-requires-2 c κs = search needs
@@ -76,8 +83,9 @@ record-of-requires-2 c κs = search needs
 returns-2 : tie.Need-returns-2
 unfolding verdictIn
 returns-2 c =
-    let at = c .before .before in
-    c .record-of2 .ensures ∙ ap recordOf (c .before .verdict-over .ensures ∙ ap verdict (claim-is at)
+    let at = c .before .before .before in
+    let judged = c .before .before .verdict-on in
+    c .record-of2 .ensures ∙ ap recordOf (c .before .verdict-given .ensures ∙ verdict-given (judged .result) _ (well at) (judged .ensures) ∙ ap verdict (claim-is at)
     ∙ sym (ap (verdictFor (book (at .before .before .before)) (places (at .before .before .before))) (so (at .before .before .before))))
 
 pub record-at-spec : {M : Type 1} → statement M
@@ -92,6 +100,7 @@ record-at-spec =
     curve-named-requires
     curve-named-requires-2
     curve-named-requires-3
-    verdict-over-requires
+    verdict-on-requires
+    verdict-given-requires
     record-of-requires-2
     returns-2)
