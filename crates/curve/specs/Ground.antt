@@ -11,7 +11,7 @@ use mathlib.Core.List.{[], _∷_}
 use Rattle.minplus.specs.Curve.{Curve, wellFormed, well-formed}
 use Rattle.minplus.specs.Ground.{A, B, vendor}
 use Rattle.curve.specs.Filled.{listOf}
-use Rattle.curve.specs.Steps.{Steps, Good, curveFrom, listedFrom, stepped, valueBy}
+use Rattle.curve.specs.Steps.{Good, curveFrom, listedFrom, stepped, valueBy}
 use Rattle.curve.specs.Rises.{rise, nextOf, stepsOf, steps-good}
 
 abbrev S : Curve

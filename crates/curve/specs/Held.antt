@@ -9,7 +9,7 @@
 --     holding-tells                of T+d values, what is held is well formed exactly when they are
 use Prim.Native.Nat.{ℕ, _+_, _≤_, _<_, min}
 use mathlib.Core.Path.{_≡_, sym, ap, _∙_, subst}
-use mathlib.Core.Bool.{Bool, true, false}
+use mathlib.Core.Bool.{true, false}
 use mathlib.Core.List.{List, []}
 use native.Mathlib.Omega.{arith}
 use mathlib.Core.Logic.{_↔_}
@@ -19,7 +19,7 @@ use Rattle.minplus.specs.Curve.{count, listedAt}
 use Rattle.curve.specs.declared.Curve.{Curve}
 use Rattle.curve.specs.declared.Form.{Form}
 use Rattle.curve.specs.Filled.{listOf, filled, length-listOf, listOf-at, listOf-same, filled-length, filled-at, filled-same, over-at}
-use Rattle.curve.specs.Steps.{Steps, sumTo, reached, risenTo, closes, listedFrom, curveFrom, sum-same}
+use Rattle.curve.specs.Steps.{Steps, reached, risenTo, closes, listedFrom, curveFrom, sum-same}
 use Rattle.curve.specs.Rises.{riseOf, risesOver, rise-same, stepsOf, steps-back, steps-tell}
 
 abbrev pub heldAs : Form → List ℕ → Steps

@@ -72,6 +72,23 @@ pub next-last : (f : C.Curve) (n : ℕ) → count f ≤ suc n → nextOf f n ≡
 unfolding nextOf
 next-last f n past = rw (le-ltb (suc n) (count f) past, nextOf)
 
+-- where each rise leads from a listed value to the next, the form has the list; and where the rises close, the curve
+module _ (f : C.Curve) (lead : (n : ℕ) → suc n < count f → listedAt f n + riseIn (stepsOf f) n ≡ listedAt f (suc n)) where
+  led-listed : (n : ℕ) → n < count f → reached (stepsOf f) n ≡ listedAt f n
+  unfolding risenTo
+  led-listed zero lt = omega arith
+  led-listed (suc n) lt =
+      reached-next (stepsOf f) n ∙ ap (λ (x : ℕ). x + riseIn (stepsOf f) n) (led-listed n (omega arith)) ∙ lead n lt
+
+  led-back : length (f .listed) ≡ count f → closes (stepsOf f) ≡ true → curveFrom (stepsOf f) ≡ f
+  led-back whole closed =
+      ap (λ (l : List ℕ). record { rank = f .rank; period = f .period; increment = f .increment; listed = l })
+      (ext-getD 0 (listedFrom (stepsOf f)) (f .listed) (long ∙ sym whole)
+      (λ n lt. listed-reached (stepsOf f) closed n (omega (arith, lt, long)) ∙ led-listed n (omega (arith, lt, long))))
+    where
+      long : length (listedFrom (stepsOf f)) ≡ count f
+      long = ap length (closed-listed (stepsOf f) closed) ∙ length-listOf (reached (stepsOf f)) (count f)
+
 module _ (f : C.Curve) (w : WellFormed f) where
   rank-inside : f .rank < count f
   rank-inside = omega (arith, w .period-positive)
@@ -97,12 +114,11 @@ module _ (f : C.Curve) (w : WellFormed f) where
       ap (λ (x : ℕ). listedAt f n + x) (listOf-at (riseOf f) (count f) n lt)
       ∙ rise-up (listedAt f n) (nextOf f n) (next-rises n lt .0) (next-rises n lt .1)
 
+  inside-reached : (n : ℕ) → suc n < count f → listedAt f n + riseIn (stepsOf f) n ≡ listedAt f (suc n)
+  inside-reached n lt = next-reached n (omega (arith, lt)) ∙ next-inside f n lt
+
   reached-listed : (n : ℕ) → n < count f → reached (stepsOf f) n ≡ listedAt f n
-  unfolding risenTo
-  reached-listed zero lt = omega arith
-  reached-listed (suc n) lt =
-      reached-next (stepsOf f) n
-      ∙ ap (λ (x : ℕ). x + riseIn (stepsOf f) n) (reached-listed n (omega arith)) ∙ next-reached n (omega arith) ∙ next-inside f n lt
+  reached-listed = led-listed f inside-reached
 
   steps-close : closes (stepsOf f) ≡ true
   steps-close =
@@ -116,14 +132,7 @@ module _ (f : C.Curve) (w : WellFormed f) where
       ∙ ap (λ (x : ℕ). x + f .increment) (sym (reached-listed (f .rank) rank-inside)))
 
   pub steps-back : curveFrom (stepsOf f) ≡ f
-  steps-back =
-      ap (λ (l : List ℕ). record { rank = f .rank; period = f .period; increment = f .increment; listed = l })
-      (closed-listed (stepsOf f) steps-close
-      ∙ ext-getD 0 (listOf (reached (stepsOf f)) (count f)) (f .listed) (long ∙ sym (w .listed-whole))
-      (λ n lt. listOf-at (reached (stepsOf f)) (count f) n (omega (arith, lt, long)) ∙ reached-listed n (omega (arith, lt, long))))
-    where
-      long : length (listOf (reached (stepsOf f)) (count f)) ≡ count f
-      long = length-listOf (reached (stepsOf f)) (count f)
+  steps-back = led-back f inside-reached (w .listed-whole) steps-close
 
   pub steps-good : Good (stepsOf f)
   steps-good = record { whole = length-listOf (riseOf f) (count f); well = subst WellFormed (sym steps-back) w }
@@ -181,22 +190,16 @@ rise-told a b = go (ltb b a) refl
 -- where the curve of a list's form is well formed, it is the curve of that list: what is not well formed is not held
 -- as if it were
 module _ (f : C.Curve) (whole : length (f .listed) ≡ count f) (w : WellFormed (curveFrom (stepsOf f))) where
-  told : (n : ℕ) → n < count f → reached (stepsOf f) n ≡ listedAt f n
-  unfolding risenTo
-  told zero lt = omega arith
-  told (suc n) lt =
-      let rises = listOf-at (riseOf f) (count f) n (omega arith) in
+  told : (n : ℕ) → suc n < count f → listedAt f n + riseIn (stepsOf f) n ≡ listedAt f (suc n)
+  told n lt =
+      let rises = listOf-at (riseOf f) (count f) n (omega (arith, lt)) in
       let fits = w .values-fit (suc n) lt in
       let here = listed-reached (stepsOf f) (well-closes (stepsOf f) w) (suc n) lt in
       let small : riseOf f n ≤ maxUnits = omega (arith, fits, here, reached-next (stepsOf f) n, rises) in
-      reached-next (stepsOf f) n
-      ∙ omega (arith, told n (omega arith), rises, rise-told (listedAt f n) (nextOf f n) small, next-inside f n lt)
+      omega (arith, rises, rise-told (listedAt f n) (nextOf f n) small, next-inside f n lt)
 
   pub steps-tell : curveFrom (stepsOf f) ≡ f
-  steps-tell =
-      ap (λ (l : List ℕ). record { rank = f .rank; period = f .period; increment = f .increment; listed = l })
-      (ext-getD 0 (listedFrom (stepsOf f)) (f .listed) (w .listed-whole ∙ sym whole)
-      (λ n lt. listed-reached (stepsOf f) (well-closes (stepsOf f) w) n (omega (arith, lt, w .listed-whole)) ∙ told n (omega (arith, lt, w .listed-whole))))
+  steps-tell = led-back f told whole (well-closes (stepsOf f) w)
 
 -- ---- one form for one curve
 
@@ -217,7 +220,7 @@ module _ (s : Steps) (w : WellFormed (curveFrom s)) where
             ∙ sym (close-sum s closed) ∙ ap (reached s) (sym e)
       ]
 
-  pub rise-back : (n : ℕ) → n < stepCount s → riseOf (curveFrom s) n ≡ riseIn s n
+  rise-back : (n : ℕ) → n < stepCount s → riseOf (curveFrom s) n ≡ riseIn s n
   rise-back n lt =
       let next = next-rises (curveFrom s) w n lt in
       let up = rise-up (listedAt (curveFrom s) n) (nextOf (curveFrom s) n) (next .0) (next .1) in

@@ -5,6 +5,7 @@
 -- repeat. Rises.antt has the form of a curve, and that there is one; Stepped.antt that its values are the curve's.
 --
 --     Steps                     T, d, c, the first value and the rises
+--     stepCount, riseIn         T+d, and one of the rises; largest is the largest number of 32 bits
 --     sumTo r k                 r(0) + .. + r(k-1)
 --     reached s k               the first value and the first k rises (risenTo): for k < T+d, the listed value
 --     closes s                  the rises of one period add up to c

@@ -12,7 +12,7 @@
 --     horizonAnswer             the answer: no horizon for a claim that is not well formed (horizon-none, ill-formed),
 --                               else its horizon (horizon-at, at-horizon)
 use Prim.Native.Nat.{ℕ, suc, _+_, _-_, _*_, _≤_, _<_, min, max}
-use mathlib.Core.Path.{_≡_, refl, sym, ap, _∙_}
+use mathlib.Core.Path.{_≡_, refl, sym, ap}
 use mathlib.Core.Bool.{Bool, true, false}
 use native.Mathlib.Omega.{arith}
 use native.Mathlib.Nat.{max-comm, mul-le-mul, le-of-lt}

@@ -43,7 +43,7 @@ fn chosen(greatest: bool, a: u64, b: u64) -> u64
     if a < b { a } else { b }
 }
 
-// d*f(t) - c*t, raised by c times the ticks that are `left` from t on, and those before it: not below 0.
+// d*f(t) - c*t, raised by c*(start + count) so that it is not below 0; `left` is start + count - t.
 fn raised(value: u64, d: u64, c: u64, left: u32) -> u64
     requires { ⌜ Raisable value d c left ⌝ }
     ensures { λ r. ⌜ r ≡ d * value + c * left ⌝ }

@@ -1,6 +1,6 @@
 -- `verdict::search::first_above` meets its contract. A turn has found nothing yet, since no tick before s passes the
 -- test, and the two walks stand at s and so many ticks later.
-use Prim.Native.Nat.{ℕ, suc, _+_, _-_, _≤_, _<_}
+use Prim.Native.Nat.{ℕ, _+_, _-_, _≤_, _<_}
 use mathlib.Core.Path.{_≡_, refl, sym, ap, ap₂, _∙_}
 use mathlib.Core.Bool.{false}
 use native.Mathlib.Omega.{arith}
