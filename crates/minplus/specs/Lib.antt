@@ -15,5 +15,6 @@ pub mod Crossing
 pub mod Ranks
 pub mod Exact
 pub mod Delay
+pub mod Folded
 pub mod Ground
 pub mod Met
