@@ -1,6 +1,7 @@
 /* The judge and the writer of document 01, with document 02's request A2, in straightforward C: what the proved ones
    are timed against and compared with. The entries are those of the header, with plain_ before each name. Horizons and
-   crossings are of 64 bits with a sign; tables hold 32 bits, as a value at a tick of at most 4,096 does. */
+   crossings are of 64 bits with a sign; tables hold 32 bits, as a value at a tick of at most 4,096 does. Kind 3 tries
+   every split of every tick; a file that includes this one may name another search for it, JUDGE_CONVOLUTION. */
 #ifndef judge
 #define judge plain_judge
 #define curve_value plain_curve_value
@@ -152,7 +153,7 @@ static uint64_t value_at(const struct curve *f, uint64_t n) {
 }
 
 /* The values at ticks 0 to `last`. */
-static void fill(uint32_t table[MAX_HORIZON + 1], const struct curve *f, uint32_t last) {
+static void fill(uint32_t *table, const struct curve *f, uint32_t last) {
     uint32_t listed = f->rank + f->period;
     for (uint32_t n = 0; n <= last; n++)
         table[n] = n < listed ? f->values[n] : table[n - f->period] + f->increment;
@@ -236,6 +237,10 @@ static struct zurmakida_record refuted_at(uint32_t tick, uint64_t left, uint64_t
     return (struct zurmakida_record){ZURMAKIDA_REFUTED_AT_TICK, tick, left, right};
 }
 
+#ifdef JUDGE_CONVOLUTION
+static struct zurmakida_record JUDGE_CONVOLUTION(const struct curve *f, const struct curve *g, const struct curve *h,
+                                                 uint32_t horizon);
+#else
 static uint32_t least_split(const uint32_t *f, const uint32_t *g, uint32_t n) {
     uint32_t least = f[0] + g[n];
     for (uint32_t u = 1; u <= n; u++) {
@@ -245,12 +250,17 @@ static uint32_t least_split(const uint32_t *f, const uint32_t *g, uint32_t n) {
     }
     return least;
 }
+#endif
 
 static uint64_t due_at(unsigned kind, const uint32_t *f, const uint32_t *g, uint32_t n) {
     switch (kind) {
     case SUM: return (uint64_t)f[n] + g[n];
     case MINIMUM: return f[n] < g[n] ? f[n] : g[n];
+#ifdef JUDGE_CONVOLUTION
+    default: return 0; /* not asked */
+#else
     default: return least_split(f, g, n);
+#endif
     }
 }
 
@@ -299,6 +309,11 @@ static struct zurmakida_record judge_claim(const struct book *book, const struct
     int64_t horizon = horizon_of(book, claim);
     if (horizon > MAX_HORIZON)
         return plain_code(ZURMAKIDA_NOT_JUDGED);
+#ifdef JUDGE_CONVOLUTION
+    if (claim->kind == CONVOLUTION)
+        return JUDGE_CONVOLUTION(&book->curves[claim->left], &book->curves[claim->right],
+                                 &book->curves[claim->claimed], (uint32_t)horizon);
+#endif
     return claim->kind < DELAY ? judge_equal(book, claim, (uint32_t)horizon)
                                : judge_bound(book, claim, (uint32_t)horizon);
 }

@@ -1,10 +1,10 @@
-/* writing ROUNDS < BOOK: writes the calls of a sound book by the proved writer and by the plain one in turn. Prints the
-   least processor time of each in nanoseconds and the number of calls. Both must write that book, in each round. */
+/* writing ROUNDS < BOOK: writes the calls of a sound book by the proved writer and by the plain one in turn, in each
+   round. Prints the median time of each in nanoseconds and the number of calls. Both must write that book, in each
+   round. */
 #include "../include/zurmakida.h"
+#include "clock.h"
 #include <stdio.h>
-#include <stdlib.h>
 #include <string.h>
-#include <time.h>
 
 struct book_call plain_book_begin(uint64_t state, uint8_t *book, size_t book_length);
 struct book_call plain_book_add_curve(uint64_t state, uint8_t *book, size_t book_length, uint64_t rank, uint64_t period,
@@ -18,7 +18,7 @@ struct writer {
     struct book_call (*add_curve)(uint64_t, uint8_t *, size_t, uint64_t, uint64_t, uint64_t, const uint32_t *, size_t);
     struct book_call (*add_claim)(uint64_t, uint8_t *, size_t, uint64_t, uint64_t, uint64_t, uint64_t);
     struct book_call (*close)(uint64_t, uint8_t *, size_t);
-    uint64_t least;
+    uint64_t times[MAX_ROUNDS];
 };
 
 struct curve {
@@ -69,39 +69,34 @@ static uint64_t write_all(const struct writer *writer, uint8_t *book, size_t len
     return refused + writer->close(call.state, book, length).refusal;
 }
 
-static uint64_t nanoseconds(void) {
-    struct timespec now;
-    clock_gettime(CLOCK_PROCESS_CPUTIME_ID, &now);
-    return (uint64_t)now.tv_sec * 1000000000 + (uint64_t)now.tv_nsec;
-}
-
 /* Whether the book was written. */
-static int take_turn(struct writer *writer, const uint8_t *due, size_t length) {
+static int take_turn(struct writer *writer, int round, const uint8_t *due, size_t length) {
     static uint8_t book[ZURMAKIDA_MAX_WRITTEN_BYTES];
     memset(book, 0xFF, sizeof book);
     uint64_t begun = nanoseconds();
     uint64_t refused = write_all(writer, book, sizeof book);
-    uint64_t took = nanoseconds() - begun;
-    if (took < writer->least)
-        writer->least = took;
+    writer->times[round] = nanoseconds() - begun;
     return refused == 0 && memcmp(book, due, length) == 0;
 }
 
 int main(int count, char **words) {
     static uint8_t book[ZURMAKIDA_MAX_WRITTEN_BYTES];
-    struct writer proved = {book_begin, book_add_curve, book_add_claim, book_close, (uint64_t)-1};
-    struct writer plain = {plain_book_begin, plain_book_add_curve, plain_book_add_claim, plain_book_close,
-                           (uint64_t)-1};
-    int rounds = count == 2 ? atoi(words[1]) : 0;
+    static struct writer proved = {book_begin, book_add_curve, book_add_claim, book_close, {0}};
+    static struct writer plain = {plain_book_begin, plain_book_add_curve, plain_book_add_claim, plain_book_close, {0}};
+    int rounds = rounds_of(count, words);
+    if (!rounds) {
+        fprintf(stderr, "usage: writing ROUNDS < BOOK, 1 to %d rounds\n", MAX_ROUNDS);
+        return 2;
+    }
     size_t length = fread(book, 1, sizeof book, stdin);
     take_apart(book);
     for (int round = 0; round < rounds; round++) {
-        if (!take_turn(&proved, book, length) || !take_turn(&plain, book, length)) {
+        if (!take_turn(&proved, round, book, length) || !take_turn(&plain, round, book, length)) {
             fprintf(stderr, "writing: the proved writer or the plain one has not written the book\n");
             return 1;
         }
     }
-    printf("%llu %llu %lu\n", (unsigned long long)proved.least, (unsigned long long)plain.least,
-           (unsigned long)(2 + curve_count + claim_count));
+    printf("%llu %llu %lu\n", (unsigned long long)median(proved.times, rounds),
+           (unsigned long long)median(plain.times, rounds), (unsigned long)(2 + curve_count + claim_count));
     return 0;
 }

@@ -47,7 +47,7 @@ void (*signal(int, void (*)(int)))(int);
 struct timespec {
     long tv_sec, tv_nsec;
 };
-#define CLOCK_PROCESS_CPUTIME_ID 2
+#define CLOCK_MONOTONIC 1
 int clock_gettime(int, struct timespec *);
 
 #ifdef __cplusplus

@@ -48,10 +48,9 @@ independent beyond SEED COUNT    tries COUNT claims of each kind far beyond the 
 independent examples DIR         writes the example books and their lines
 independent lines < BOOK         prints the lines due for a book
 independent shown < BOOK         prints the lines of the header's own example for a book
-independent time TURNS < BOOK    prints the least time of a turn in nanoseconds
-independent bench NAME           writes a book to measure with: worst, sum, minimum,
-                                 convolution, delay, exact_delay, backlog, exact_backlog,
-                                 or largest
+independent bench NAME           writes a book to measure with: worst, splits, growth_256 and
+                                 so on, full_sum, full_delay, largest, sum, minimum,
+                                 convolution, delay, exact_delay, backlog, or exact_backlog
 ";
 
 fn main() -> ExitCode {
@@ -69,7 +68,6 @@ fn main() -> ExitCode {
         ["examples", folder] => examples(folder),
         ["lines"] => lines(),
         ["shown"] => shown(),
-        ["time", turns] => time(turns),
         ["bench", name] => bench(name),
         _ => {
             eprint!("{USAGE}");
@@ -170,11 +168,6 @@ fn lines() -> Result<(), String> {
 
 fn shown() -> Result<(), String> {
     print!("{}", text::shown(&input()?));
-    Ok(())
-}
-
-fn time(turns: &str) -> Result<(), String> {
-    println!("{}", bench::least(number(turns)?, &input()?));
     Ok(())
 }
 
