@@ -28,7 +28,7 @@
      freed.
    - There is no state outside the arguments: the same input has the same answer, always. Calls may run at once in any
      number of threads, and may share a book to read; each has its own bytes to write.
-   - Stack: one call of judge takes at most 65,000 bytes, one of curve_value 4,600, one of the others 64; beside that
+   - Stack: one call of judge takes at most 29,000 bytes, one of curve_value 5,600, one of the others 64; beside that
      what memcpy and memset of the C library take, and the 128 bytes below the stack pointer that are any function's on
      x86-64 (bench/stack reads it off the machine code).
 

@@ -4,12 +4,11 @@
 --     readingOf        the answer as the code's struct: a refused book holds nothing; passedUp, outcomeOf: from a
 --                      field's answer
 --     read-refused, read-sound     what the answer's outcome tells of the book
---     noted            the places with one more field; Notable: there is room, and it fits 16 bits
---     Reads            a reader stands at a state of a book: reads-start; reads-refused, reads-end, reads-more: by the
---                      next field's answer
+--     Reads            a reader stands at a state of a book: reads-start; reads-refused, reads-end, reads-version,
+--                      reads-curve, reads-claim: by the next field's answer; curve-room, claim-room, place-near: its
+--                      place can be noted
 use Prim.Native.Nat.{ℕ, zero, suc, _+_, _≤_, _<_}
 use mathlib.Core.Path.{_≡_, refl, sym, ap, _∙_}
-use mathlib.Core.Bool.{false}
 use mathlib.Core.List.{List, [], _∷_, _++_}
 use native.Mathlib.Omega.{arith}
 use lib.ListN.{length, set, length-append}
@@ -50,17 +49,6 @@ outcomeOf (field.Taken t next) = outcome.Sound
 
 abbrev pub passedUp : Field → Reading
 passedUp answer = record { outcome = outcomeOf answer; book = nothing }
-
-unfoldable pub noted : Places → Tag → State → Places
-noted places tag.Version st = places
-noted places tag.Curve st = record { curves = set (places .curves) (st .curves) (st .place); claims = places .claims }
-noted places tag.Claim st = record { curves = places .curves; claims = set (places .claims) (st .claims) (st .place) }
-noted places tag.End st = places
-
--- a place that can be noted: there is room, and it fits 16 bits
-pub record Notable (t : Tag) (st : State) : Type 0 where
-  pub room : full t (st .curves) (st .claims) ≡ false
-  pub near : st .place < 65536
 
 -- ---- laws
 
@@ -133,18 +121,26 @@ module _ {s : List ℕ} {st : State} {places : Places} (reads : Reads s st place
   unfolding readFrom
   reads-end next e = sym (rw (e, readFrom) at (again .1))
 
-  -- a field that is taken brings the reader on, and there is room to note its place
-  module _ (t : Tag) (next : State) (e : stepAt s st ≡ field.Taken t next) where
-    pub place-inside : (st .place < next .place) × (next .place ≤ length s)
-    place-inside = next-inside (takes s st t next e) (reads .inside)
+  -- a field that is taken brings the reader on
+  pub place-inside : (t : Tag) (next : State) → stepAt s st ≡ field.Taken t next → (st .place < next .place) × (next .place ≤ length s)
+  place-inside t next e = next-inside (takes s st t next e) (reads .inside)
 
-    pub notable : Notable t st
-    notable = record { room = takes s st t next e .room; near = omega (arith, reads .short, reads .inside) }
+  -- there is room to note its place, which fits 16 bits
+  pub curve-room : (next : State) → stepAt s st ≡ field.Taken tag.Curve next → st .curves < maxCurves
+  unfolding full
+  curve-room next e = leb-false _ _ (takes s st tag.Curve next e .room)
+
+  pub claim-room : (next : State) → stepAt s st ≡ field.Taken tag.Claim next → st .claims < maxClaims
+  unfolding full
+  claim-room next e = leb-false _ _ (takes s st tag.Claim next e .room)
+
+  pub place-near : st .place < 65536
+  place-near = omega (arith, reads .short, reads .inside)
 
   moved-on : (t : Tag) (next : State) → stepAt s st ≡ field.Taken t next → (curves claims : List ℕ) → next .curves ≡ length curves → next .claims ≡ length claims
       → ((k : ℕ) → readFrom (suc k) s st (reads .curves) (reads .claims) ≡ readFrom k s next curves claims)
-      → noted places t st ≡ placesOf curves claims → Reads s next (noted places t st)
-  moved-on t next e curves claims curve-count claim-count on-to held =
+      → (after-it : Places) → after-it ≡ placesOf curves claims → Reads s next after-it
+  moved-on t next e curves claims curve-count claim-count on-to after-it held =
       let past = place-inside t next e in
       record {
         steps = again .0;
@@ -159,27 +155,34 @@ module _ {s : List ℕ} {st : State} {places : Places} (reads : Reads s st place
         claim-count = claim-count;
       }
 
-  pub reads-more : (t : Tag) (next : State) → stepAt s st ≡ field.Taken t next → (t ≡ tag.End → ⊥) → Reads s next (noted places t st)
-  unfolding readFrom noted after full
-  reads-more tag.Version next e other =
+  pub reads-version : (next : State) → stepAt s st ≡ field.Taken tag.Version next → Reads s next places
+  unfolding readFrom after
+  reads-version next e =
       let then = takes s st tag.Version next e .then in
       moved-on tag.Version next e (reads .curves) (reads .claims)
       (ap (λ (x : State). x .curves) then ∙ reads .curve-count) (ap (λ (x : State). x .claims) then ∙ reads .claim-count)
-      (λ k. rw (e, readFrom)) (reads .held)
-  reads-more tag.Curve next e other =
-      let taken = takes s st tag.Curve next e in
-      let room : length (reads .curves) < maxCurves = rw (← reads .curve-count) (leb-false _ _ (taken .room)) in
+      (λ k. rw (e, readFrom)) places (reads .held)
+
+  pub reads-curve : (next : State) → stepAt s st ≡ field.Taken tag.Curve next
+      → Reads s next (record { curves = set (places .curves) (st .curves) (st .place); claims = places .claims })
+  unfolding readFrom after
+  reads-curve next e =
+      let then = takes s st tag.Curve next e .then in
+      let room : length (reads .curves) < maxCurves = rw (← reads .curve-count) (curve-room next e) in
       moved-on tag.Curve next e (reads .curves ++ (st .place ∷ [])) (reads .claims)
-      (ap (λ (x : State). x .curves) (taken .then) ∙ rw (reads .curve-count, length-append (reads .curves) (st .place ∷ [])))
-      (ap (λ (x : State). x .claims) (taken .then) ∙ reads .claim-count)
-      (λ k. rw (e, readFrom))
+      (ap (λ (x : State). x .curves) then ∙ rw (reads .curve-count, length-append (reads .curves) (st .place ∷ [])))
+      (ap (λ (x : State). x .claims) then ∙ reads .claim-count)
+      (λ k. rw (e, readFrom)) _
       (rw (reads .held, reads .curve-count, array-more maxCurves (reads .curves) (st .place) (length (reads .curves)) refl room))
-  reads-more tag.Claim next e other =
-      let taken = takes s st tag.Claim next e in
-      let room : length (reads .claims) < maxClaims = rw (← reads .claim-count) (leb-false _ _ (taken .room)) in
+
+  pub reads-claim : (next : State) → stepAt s st ≡ field.Taken tag.Claim next
+      → Reads s next (record { curves = places .curves; claims = set (places .claims) (st .claims) (st .place) })
+  unfolding readFrom after
+  reads-claim next e =
+      let then = takes s st tag.Claim next e .then in
+      let room : length (reads .claims) < maxClaims = rw (← reads .claim-count) (claim-room next e) in
       moved-on tag.Claim next e (reads .curves) (reads .claims ++ (st .place ∷ []))
-      (ap (λ (x : State). x .curves) (taken .then) ∙ reads .curve-count)
-      (ap (λ (x : State). x .claims) (taken .then) ∙ rw (reads .claim-count, length-append (reads .claims) (st .place ∷ [])))
-      (λ k. rw (e, readFrom))
+      (ap (λ (x : State). x .curves) then ∙ reads .curve-count)
+      (ap (λ (x : State). x .claims) then ∙ rw (reads .claim-count, length-append (reads .claims) (st .place ∷ [])))
+      (λ k. rw (e, readFrom)) _
       (rw (reads .held, reads .claim-count, array-more maxClaims (reads .claims) (st .place) (length (reads .claims)) refl room))
-  reads-more tag.End next e other = absurd (other refl)

@@ -2,7 +2,7 @@
 ghost use mathlib.Core.Path.{_≡_};
 ghost use mathlib.Core.List.{[]};
 ghost use Rattle.book.specs.Reading.{readBook};
-ghost use Rattle.book.specs.Held.{placesOf, readingOf, passedUp, Notable, noted};
+ghost use Rattle.book.specs.Held.{placesOf, readingOf, passedUp};
 use crate::Book;
 use crate::Outcome;
 use crate::Places;
@@ -41,29 +41,7 @@ fn passed_up(answer: Field) -> Reading
     }
 }
 
-// The places with the field at the state's place, which is taken.
-fn noted(places: Places, tag: Tag, state: State) -> Places
-    requires { ⌜ Notable tag state ⌝ }
-    ensures { λ r. ⌜ r ≡ noted places tag state ⌝ }
-{
-    let mut curves = places.curves;
-    let mut claims = places.claims;
-    let place = state.place;
-    match tag {
-        Tag::Version => {}
-        Tag::Curve => {
-            let n = state.curves;
-            curves[n] = place as u16;
-        }
-        Tag::Claim => {
-            let n = state.claims;
-            claims[n] = place as u16;
-        }
-        Tag::End => {}
-    }
-    Places { curves, claims }
-}
-
+// The places are noted in arrays of the loop's own, and put together at the end.
 pub fn read(book: &[u8]) -> Reading
     ensures { λ r. ⌜ r ≡ readingOf (readBook (now (book .entry))) ⌝ }
 {
@@ -76,23 +54,35 @@ pub fn read(book: &[u8]) -> Reading
         claims: 0,
         place: 0,
     };
-    let mut places = no_places();
+    let mut curves = [0u16; State::MAX_CURVES];
+    let mut claims = [0u16; State::MAX_CLAIMS];
     loop {
         let answer = step(book, state);
         let Field::Taken(tag, next) = answer else {
             return passed_up(answer);
         };
-        places = noted(places, tag, state);
-        if let Tag::End = tag {
-            return Reading {
-                outcome: Outcome::Sound,
-                book: Book {
-                    version: state.version,
-                    curves: state.curves,
-                    claims: state.claims,
-                    places,
-                },
-            };
+        let place = state.place;
+        match tag {
+            Tag::Version => {}
+            Tag::Curve => {
+                let n = state.curves;
+                curves[n] = place as u16;
+            }
+            Tag::Claim => {
+                let n = state.claims;
+                claims[n] = place as u16;
+            }
+            Tag::End => {
+                return Reading {
+                    outcome: Outcome::Sound,
+                    book: Book {
+                        version: state.version,
+                        curves: state.curves,
+                        claims: state.claims,
+                        places: Places { curves, claims },
+                    },
+                };
+            }
         }
         state = next;
     }

@@ -1,24 +1,26 @@
 -- The contents of curves and claims. Document 01, 'The book': "numbers high byte first".
 --
 --     rankIn, periodIn, incrementIn   "01: T (2), d (2), c (4), then T+d values (4 each)": read from a content
---     countIn, valueIn, curveIn       (curveHead: the bytes of T, d and c)
+--     countIn, valueIn, curveIn       (curveHead: the bytes of T, d and c; wholeIn: how many values are all there;
+--                                     value-missing: the others are 0)
 --     curveBytes, valuesBytes         the same, written
 --     Statement, claimIn              "02: kind, left, right (1 each), then h (1) for kinds 1 to 3 or X (4) for 4 to
 --                                     7": read from a content
 --     thirdWidth, claimLength         (at most 4: third-small; widthOf: by the kind, third-in)
 --     claimBytes                      the same, written
 --     kindIn, idIn                    a claim's kind and the ids in it
-use Prim.Native.Nat.{ℕ, _+_, _*_, _≤_}
+use Prim.Native.Nat.{ℕ, _+_, _-_, _*_, _/_, _≤_}
 use mathlib.Core.Path.{_≡_, refl, ap, _∙_}
 use mathlib.Core.Bool.{Bool, true, false}
 use mathlib.Core.List.{List, _++_, flatMap}
 use mathlib.Core.Option.{Option, some}
 use native.Mathlib.Omega.{arith}
+use lib.ListN.{length}
 use lib.Dec.{ltb}
 use Rattle.minplus.specs.Curve.{Curve}
 use Rattle.minplus.specs.Claim.{Kind, atMost, backlog, bound, convolution, delay, exactly, kind-by, kindBy, kindNumber, minimum, result, sum}
 use Rattle.curve.specs.Filled.{listOf}
-use Rattle.numbers.specs.Numbers.{numberAt}
+use Rattle.numbers.specs.Numbers.{numberAt, number-torn}
 use Rattle.numbers.specs.Put.{bytesOf}
 
 -- ---- curve
@@ -42,6 +44,10 @@ curveHead = 8
 
 abbrev pub valueIn : List ℕ → ℕ → ℕ
 valueIn content n = numberAt 4 content (curveHead + 4 * n)
+
+-- how many values are all there
+abbrev pub wholeIn : List ℕ → ℕ
+wholeIn content = (length content - curveHead) / 4
 
 abbrev pub curveIn : List ℕ → Curve
 curveIn content = record {
@@ -99,6 +105,9 @@ unfolding thirdWidth
 claimBytes c = bytesOf 1 (c .kind) ++ (bytesOf 1 (c .left) ++ (bytesOf 1 (c .right) ++ bytesOf (thirdWidth (c .kind)) (c .third)))
 
 -- ---- laws
+
+pub value-missing : (content : List ℕ) (n : ℕ) → wholeIn content ≤ n → valueIn content n ≡ 0
+value-missing content n le = number-torn 4 (curveHead + 4 * n) content (omega (arith, le))
 
 pub third-small : (kind : ℕ) → thirdWidth kind ≤ 4
 unfolding thirdWidth

@@ -15,6 +15,7 @@
 --     stepped s n               the first value and the sum of the n rises before n, which repeat from T on
 --     valueBy s n               the same with whole periods by one multiplication
 --     Good s                    T+d rises, and a curve that is well formed
+--     Lent s                    at least so many: what is lent to be judged on
 --     Sized s                   what that asks of the numbers alone: sized-well, well-sized
 --     sum-same, sum-split, sum-more, sum-past     laws of sums
 --     reached-next, listed-reached, close-sum, sum-closes, closed-listed     of the list
@@ -87,6 +88,11 @@ stepped s n = s .first + sumTo (λ i. riseIn s (placeAt (s .rank) (s .period) i)
 -- T + d rises, and a curve that is well formed
 pub record Good (s : Steps) : Type 0 where
   pub whole : length (s .rises) ≡ stepCount s
+  pub well : WellFormed (curveFrom s)
+
+-- no fewer rises than T + d, and a curve that is well formed: so a walk never leaves them
+pub record Lent (s : Steps) : Type 0 where
+  pub room : stepCount s ≤ length (s .rises)
   pub well : WellFormed (curveFrom s)
 
 unfoldable pub valueBy : Steps → ℕ → ℕ

@@ -9,7 +9,7 @@ pub mod rates;
 pub mod values;
 pub mod walks;
 
-use crate::listed::put_rises;
+use crate::listed::hold;
 
 // A count of ticks. A count of units can't be passed for it.
 pub struct Ticks(pub u32);
@@ -47,17 +47,8 @@ impl Curve {
         ensures { λ r. ⌜ r ≡ heldOver (record { rank = rank .0; period = period .0; increment = increment; listed = values }) ⌝ }
     {
         let mut rises = values;
-        let first = rises[0];
-        put_rises(rank, period, increment, &mut rises);
-        Curve {
-            form: Form {
-                rank,
-                period,
-                increment,
-                first,
-            },
-            rises,
-        }
+        let form = hold(rank, period, increment, &mut rises);
+        Curve { form, rises }
     }
 }
 

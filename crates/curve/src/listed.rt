@@ -5,8 +5,10 @@ ghost use Prim.Native.Nat.{_<_, min};
 ghost use lib.ListN.{getD, length};
 ghost use Rattle.minplus.specs.Curve.{seamHolds};
 ghost use Rattle.curve.specs.Filled.{over};
+ghost use Rattle.curve.specs.Held.{formOver};
 ghost use Rattle.curve.specs.Steps.{largest};
 ghost use Rattle.curve.specs.Rises.{rise, riseWithin, afterLast, risesOver};
+use crate::Form;
 use crate::Ticks;
 
 // 0 where there is none.
@@ -74,7 +76,7 @@ fn after_last(rank: Ticks, period: Ticks, increment: u32, values: &[u32]) -> u64
 }
 
 // Listed values, turned into the rises from each to the next, where they stand. What stands past T+d of them stays.
-pub(crate) fn put_rises(rank: Ticks, period: Ticks, increment: u32, values: &mut [u32])
+fn put_rises(rank: Ticks, period: Ticks, increment: u32, values: &mut [u32])
     ensures { λ _. ⌜ now (values .exit) ≡ risesOver (record { rank = rank .0; period = period .0; increment = increment; listed = now (values .entry) }) ⌝ }
 {
     let mut held = rank.0 as usize + period.0 as usize;
@@ -88,6 +90,21 @@ pub(crate) fn put_rises(rank: Ticks, period: Ticks, increment: u32, values: &mut
     let last = held - 1;
     put_inner(values, last);
     values[last] = rise_far(values[last], after);
+}
+
+// The form of listed values, which are turned into their rises where they stand.
+pub fn hold(rank: Ticks, period: Ticks, increment: u32, values: &mut [u32]) -> Form
+    ensures { λ r. ⌜ r ≡ formOver (record { rank = rank .0; period = period .0; increment = increment; listed = now (values .entry) }) ⌝ }
+    ensures { λ _. ⌜ now (values .exit) ≡ risesOver (record { rank = rank .0; period = period .0; increment = increment; listed = now (values .entry) }) ⌝ }
+{
+    let first = number_at(values, 0);
+    put_rises(rank, period, increment, values);
+    Form {
+        rank,
+        period,
+        increment,
+        first,
+    }
 }
 
 // f(T)+c, the first value of the next period, is not below f(T+d-1). The values before it are not looked at.

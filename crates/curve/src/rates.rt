@@ -1,13 +1,12 @@
 // Which of two curves is the slower one.
 ghost use mathlib.Core.Path.{_≡_};
 ghost use Rattle.minplus.specs.Horizon as Def;
-ghost use Rattle.curve.specs.Held.{curveOf};
-use crate::Curve;
+ghost use Rattle.curve.specs.Held.{ratesOf};
+use crate::Form;
 
-// Rates are compared by cross products: a division would take 1/2 and 2/3 for the same.
-pub fn slower(f: Curve, g: Curve) -> bool
-    ensures { λ r. ⌜ r ≡ Def.slower (curveOf f) (curveOf g) ⌝ }
+// Rates are compared by cross products: a division would take 1/2 and 2/3 for the same. No rise is looked at.
+pub fn slower(f: Form, g: Form) -> bool
+    ensures { λ r. ⌜ r ≡ Def.slower (ratesOf f) (ratesOf g) ⌝ }
 {
-    (f.form.increment as u64 * g.form.period.0 as u64)
-        < g.form.increment as u64 * f.form.period.0 as u64
+    (f.increment as u64 * g.period.0 as u64) < g.increment as u64 * f.period.0 as u64
 }

@@ -1,13 +1,10 @@
 // A walk over a curve's ticks: one rise a tick, and no division but where it begins.
 ghost use mathlib.Core.Path.{_≡_};
 ghost use Rattle.curve.specs.Held.{heldAs};
-ghost use Rattle.curve.specs.Steps.{placeAfter};
-ghost use Rattle.curve.specs.Walks.{walkBy, nextWalk};
+ghost use Rattle.curve.specs.Walks.{Walkable, walkBy, walkStart, nextWalk};
 use crate::Form;
 use crate::Ticks;
 use crate::Units;
-use crate::listed::number_at;
-use crate::values::capped_sum;
 use crate::values::turn_by;
 use crate::values::value_after;
 
@@ -17,20 +14,18 @@ pub struct Walk {
     pub value: Units,
 }
 
-// One place on; after the last one, back to the rank's.
-fn place_after(form: Form, place: usize) -> usize
-    ensures { λ r. ⌜ r ≡ placeAfter (form .rank .0) (form .period .0) place ⌝ }
-{
-    let t = form.rank.0 as usize;
-    let count = t + form.period.0 as usize;
-    if count == 0 {
-        return t;
-    }
-    if place < count - 1 { place + 1 } else { t }
-}
-
 impl Walk {
-    // A walk that begins at a tick.
+    // A walk that begins at tick 0.
+    pub fn start(form: Form) -> Walk
+        ensures { λ r. ⌜ r ≡ walkStart (form .first) ⌝ }
+    {
+        Walk {
+            place: 0,
+            value: Units(form.first as u64),
+        }
+    }
+
+    // A walk that begins at any tick.
     pub fn at(form: Form, rises: &[u32], tick: Ticks) -> Walk
         ensures { λ r. ⌜ r ≡ walkBy (heldAs form (now (rises .entry))) (tick .0) ⌝ }
     {
@@ -40,15 +35,23 @@ impl Walk {
         Walk { place, value }
     }
 
-    // One tick on.
+    // One tick on: one place on, and after the last one back to the rank's.
     pub fn next(self, form: Form, rises: &[u32]) -> Walk
+        requires { ⌜ Walkable (heldAs form (now rises)) self ⌝ }
         ensures { λ r. ⌜ r ≡ nextWalk (heldAs form (now (rises .entry))) self ⌝ }
     {
-        let place = self.place;
+        let t = form.rank.0 as usize;
+        let count = t + form.period.0 as usize;
+        let at = self.place;
         let value = self.value;
-        let risen = capped_sum(value.0, number_at(rises, place) as u64);
+        let rise = &rises[at];
+        let risen = value.0 + *rise as u64;
+        let mut place = at + 1;
+        if count <= place {
+            place = t;
+        }
         Walk {
-            place: place_after(form, place),
+            place,
             value: Units(risen),
         }
     }

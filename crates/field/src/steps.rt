@@ -1,8 +1,10 @@
 // One field: tag (1 byte), length (2), content.
 ghost use mathlib.Core.Path.{_≡_};
 ghost use mathlib.Core.Bool.{false};
+ghost use Prim.Native.Nat.{_-_};
 ghost use lib.ListN.{drop};
-ghost use Rattle.field.specs.Fields.{tagBy, contentOf, contentAt};
+ghost use lib.Dec.{ltb};
+ghost use Rattle.field.specs.Fields.{tagBy, headLength, contentOf, contentAt, versionIn};
 ghost use Rattle.field.specs.Steps.{versionFault, endFault, contentFault, inOrder, full, taggedFault, after, stepAt};
 use crate::Field;
 use crate::State;
@@ -40,6 +42,16 @@ fn rest_of(bytes: &[u8], place: usize) -> &[u8]
         let end = bytes.len();
         &bytes[end..]
     }
+}
+
+// Fewer bytes than a field's head are left from a place on.
+fn torn_at(length: usize, place: usize) -> bool
+    ensures { λ r. ⌜ r ≡ ltb (length - place) headLength ⌝ }
+{
+    if length < HEAD {
+        return true;
+    }
+    length - HEAD < place
 }
 
 // The content of the field that some bytes begin with, as far as they have it.
@@ -144,14 +156,14 @@ fn tagged_fault(tag: Tag, state: State, rest: &[u8]) -> Checked
     content_fault(tag, curves, content_of(rest), rest.len() - size)
 }
 
-// The state after a field.
-fn after(tag: Tag, state: State, version: u8, place: usize) -> State
+// The state after a field. Its content is looked at for a version alone.
+fn after(tag: Tag, state: State, content: &[u8], place: usize) -> State
     requires { ⌜ full tag (state .curves) (state .claims) ≡ false ⌝ }
-    ensures { λ r. ⌜ r ≡ after tag state version place ⌝ }
+    ensures { λ r. ⌜ r ≡ after tag state (versionIn (now (content .entry))) place ⌝ }
 {
     match tag {
         Tag::Version => State {
-            version,
+            version: number1(content, 0),
             curves: state.curves,
             claims: state.claims,
             place,
@@ -182,10 +194,10 @@ pub(crate) fn field_at(book: &[u8], state: State) -> Field
     ensures { λ r. ⌜ r ≡ stepAt (now (book .entry)) state ⌝ }
 {
     let place = state.place;
-    let rest = rest_of(book, place);
-    if rest.len() < HEAD {
+    if torn_at(book.len(), place) {
         return Field::Refused(Refusal::Torn, place);
     }
+    let rest = &book[place..];
     let Tagged::Known(tag) = tag_by(number1(rest, 0)) else {
         return Field::Refused(Refusal::UnknownTag, place);
     };
@@ -194,6 +206,5 @@ pub(crate) fn field_at(book: &[u8], state: State) -> Field
         return Field::Refused(refusal, place);
     }
     let next = place + HEAD + number2(rest, 1) as usize;
-    let version = number1(content_of(rest), 0);
-    Field::Taken(tag, after(tag, state, version, next))
+    Field::Taken(tag, after(tag, state, content_of(rest), next))
 }

@@ -2,18 +2,22 @@
 --
 --     choice greatest           the greater or the lesser of two numbers
 --     signedOf                  a struct of two numbers as a signed number
+--     Limited                   a curve's numbers keep their limits, as those of a well-formed one do (limited)
 --     Raisable, Extent, Small, Ready, Crossable      what is known where it is computed, so that products fit: no
 --                                          extreme is above large, no N above far
---     raised-fits, raisable, choice-fits, begun-fits, above-fits, below-fits, faster-fits     that they do
+--     raised-fits, raisable, small-more, choice-fits, begun-fits, above-fits, below-fits, faster-fits     that they do
 --     evenRank, crossingN       the rank with equal rates, and N where f is the slower curve
 --     rates-left, rates-right, rates-even     by the three ways in which two rates can stand; convolution-none,
 --                                             convolution-some: by T
 --     rank-is                   R is the greater of the two
+--     even-numbers, horizon-numbers     the first asks a curve's numbers alone, and so does the horizon of the claimed
+--                                       one
 --     horizonAnswer             the answer: no horizon for a claim that is not well formed (horizon-none, ill-formed),
 --                               else its horizon (horizon-at, at-horizon)
 use Prim.Native.Nat.{ℕ, suc, _+_, _-_, _*_, _≤_, _<_, min, max}
 use mathlib.Core.Path.{_≡_, refl, sym, ap}
 use mathlib.Core.Bool.{Bool, true, false}
+use mathlib.Core.List.{List}
 use native.Mathlib.Omega.{arith}
 use native.Mathlib.Nat.{max-comm, mul-le-mul, le-of-lt}
 use Rattle.minplus.specs.Curve as C
@@ -21,6 +25,12 @@ use Rattle.minplus.specs.Ranks.{common-comm, by-rates}
 use Rattle.minplus.specs.Claim as M
 use Rattle.minplus.specs.Horizon as H
 use Rattle.minplus.specs.Horizon.{Slower}
+use Rattle.curve.specs.declared.Claim as code
+use Rattle.curve.specs.declared.Claim.the-variants.{Equals, AtMost, Exactly}
+use Rattle.curve.specs.declared.Form.{Form}
+use Rattle.curve.specs.Steps.{Steps, Lent, curveFrom}
+use Rattle.curve.specs.Held.{heldAs, ratesOf}
+use Rattle.curve.specs.Claimed.{claimOver}
 use Rattle.horizon.specs.declared.crossing.Signed.{Signed}
 use Rattle.horizon.specs.declared.Horizon.{Horizon}
 use Rattle.horizon.specs.declared.Horizon.the-variants.{At, IllFormed}
@@ -39,9 +49,15 @@ pub record Raisable (v d c left : ℕ) : Type 0 where
   pub slope-fits : c ≤ C.maxUnits
   pub left-fits : left ≤ C.maxListed
 
+-- the numbers of a well-formed curve
+pub record Limited (f : C.Curve) : Type 0 where
+  pub rank-fits : f .rank ≤ C.maxListed
+  pub period-fits : f .period ≤ C.maxListed
+  pub increment-fits : f .increment ≤ C.maxUnits
+
 -- what an extreme is taken over: some of a curve's values, with factors that are small enough
-pub record Extent (f : C.Curve) (d c start count : ℕ) : Type 0 where
-  pub well-formed : C.WellFormed f
+pub record Extent (s : Steps) (d c start count : ℕ) : Type 0 where
+  pub lent : Lent s
   pub some : 1 ≤ count
   pub room : start + count ≤ C.maxListed
   pub factor-fits : d ≤ C.maxListed
@@ -59,15 +75,17 @@ large = 2_199_023_255_552
 abbrev pub far : ℕ
 far = 4_503_599_627_370_496
 
--- f is the slower of two well-formed curves
-pub record Ready (f g : C.Curve) : Type 0 where
-  pub left : C.WellFormed f
-  pub right : C.WellFormed g
-  pub slower : Slower f g
+-- f is the slower of two curves that are lent
+pub record Ready (f g : Steps) : Type 0 where
+  pub left : Lent f
+  pub right : Lent g
+  pub slower : Slower (curveFrom f) (curveFrom g)
 
--- and A and B are within bounds
+-- f is the slower of two curves, and A and B are within bounds
 pub record Crossable (f g : C.Curve) (a b : Signed) : Type 0 where
-  pub ready : Ready f g
+  pub left : Limited f
+  pub right : Limited g
+  pub slower : Slower f g
   pub a-small : Small (large + large) a
   pub b-small : Small (large + large) b
 
@@ -92,10 +110,21 @@ horizonAnswer c = elim (M.wellFormedClaim c) [ true ↦ At (H.horizon c) | false
 pub raised-fits : {v d c left : ℕ} → Raisable v d c left → d * v + c * left ≤ large
 raised-fits at = omega (arith, mul-le-mul (at .factor-fits) (at .value-fits), mul-le-mul (at .slope-fits) (at .left-fits))
 
-pub raisable : {f : C.Curve} {d c start count v left : ℕ} → Extent f d c start count → (n : ℕ) → n < start + count → v ≡ C.value f n → left ≤ count
+-- a curve's limits hold of its numbers
+pub limited : {form : Form} {l : List ℕ} → Lent (heldAs form l) → Limited (ratesOf form)
+limited lent = record {
+  rank-fits = omega (arith, C.rank-fits (lent .well));
+  period-fits = C.period-fits (lent .well);
+  increment-fits = lent .well .increment-fits;
+}
+
+pub small-more : {s : Signed} → Small large s → Small (large + large) s
+small-more small = record { plus-fits = omega (arith, small .plus-fits); minus-fits = omega (arith, small .minus-fits) }
+
+pub raisable : {s : Steps} {d c start count v left : ℕ} → Extent s d c start count → (n : ℕ) → n < start + count → v ≡ C.value (curveFrom s) n → left ≤ count
     → Raisable v d c left
-raisable {f} over n lt is few = record {
-  value-fits = omega (arith, is, C.value-at-most f (over .well-formed) n, over .room);
+raisable {s} over n lt is few = record {
+  value-fits = omega (arith, is, C.value-at-most (curveFrom s) (over .lent .well) n, over .room);
   factor-fits = over .factor-fits;
   slope-fits = over .slope-fits;
   left-fits = omega (arith, few, over .room);
@@ -105,20 +134,20 @@ pub choice-fits : (greatest : Bool) {a b bound : ℕ} → a ≤ bound → b ≤ 
 choice-fits true ha hb = omega arith
 choice-fits false ha hb = omega arith
 
-pub begun-fits : {f g : C.Curve} → Ready f g → (H.begunAt f g .plus ≤ large) × (H.begunAt f g .minus ≤ large)
-begun-fits {f} {g} at =
-    let value-fits : C.value g (g .rank) ≤ 256_000_000 = omega (arith, C.value-at-most g (at .right) (g .rank), C.rank-fits (at .right)) in (
-      omega (arith, mul-le-mul (C.period-fits (at .left)) value-fits),
-      omega (arith, mul-le-mul (at .left .increment-fits) (le-of-lt (C.rank-fits (at .right)))),
+pub begun-fits : {f : C.Curve} {s : Steps} → Limited f → Lent s → (H.begunAt f (curveFrom s) .plus ≤ large) × (H.begunAt f (curveFrom s) .minus ≤ large)
+begun-fits {f} {s} at lent =
+    let value-fits : C.value (curveFrom s) (s .rank) ≤ 256_000_000 = omega (arith, C.value-at-most (curveFrom s) (lent .well) (s .rank), C.rank-fits (lent .well)) in (
+      omega (arith, mul-le-mul (at .period-fits) value-fits),
+      omega (arith, mul-le-mul (at .increment-fits) (le-of-lt (C.rank-fits (lent .well)))),
     )
 
 -- what is computed of A and B stays far below 2^64
 module _ {f g : C.Curve} {a b : Signed} (at : Crossable f g a b) where
   d-fits : f .period ≤ C.maxListed
-  d-fits = C.period-fits (at .ready .left)
+  d-fits = at .left .period-fits
 
   e-fits : g .period ≤ C.maxListed
-  e-fits = C.period-fits (at .ready .right)
+  e-fits = at .right .period-fits
 
   pub above-fits : g .period * a .plus + f .period * b .minus ≤ far - large
   above-fits = omega (arith, mul-le-mul e-fits (at .a-small .plus-fits), mul-le-mul d-fits (at .b-small .minus-fits))
@@ -127,7 +156,7 @@ module _ {f g : C.Curve} {a b : Signed} (at : Crossable f g a b) where
   below-fits = omega (arith, mul-le-mul d-fits (at .b-small .plus-fits), mul-le-mul e-fits (at .a-small .minus-fits))
 
   pub faster-fits : g .increment * f .period + f .increment * g .period ≤ large
-  faster-fits = omega (arith, mul-le-mul (at .ready .right .increment-fits) d-fits, mul-le-mul (at .ready .left .increment-fits) e-fits)
+  faster-fits = omega (arith, mul-le-mul (at .right .increment-fits) d-fits, mul-le-mul (at .left .increment-fits) e-fits)
 
 -- the three ways in which two rates can stand
 module _ (f g : C.Curve) (equal : ℕ) (N : C.Curve → C.Curve → ℕ) where
@@ -176,6 +205,21 @@ pub convolution-some : (f g : C.Curve) → 1 ≤ f .rank
     → H.convolutionN f g ≡ H.crossing f g (H._increasedBy_ (H.highest f) (H.begunAt f g)) (H._increasedBy_ (H.lowest g) (H.earliest f g))
 unfolding H.convolutionN
 convolution-some f g some = let e : f .rank ≡ suc (f .rank - 1) = omega arith in rw e
+
+pub even-numbers : (op : M.Operation) (f g : Form) (l m : List ℕ)
+    → evenRank op (ratesOf f) (ratesOf g) ≡ evenRank op (curveFrom (heldAs f l)) (curveFrom (heldAs g m))
+unfolding evenRank
+even-numbers M.sum f g l m = refl
+even-numbers M.minimum f g l m = refl
+even-numbers M.convolution f g l m = refl
+
+-- of the claimed curve the numbers are enough
+pub horizon-numbers : (c : code.Claim) (f g : C.Curve) (h : Form) (l : List ℕ)
+    → H.horizon (claimOver c f g (ratesOf h)) ≡ H.horizon (claimOver c f g (curveFrom (heldAs h l)))
+unfolding H.horizon
+horizon-numbers (Equals o) f g h l = refl
+horizon-numbers (AtMost x) f g h l = refl
+horizon-numbers (Exactly x) f g h l = refl
 
 -- the answer from what holds, and what holds from the answer
 module _ (c : M.Claim) where

@@ -1,13 +1,12 @@
 // The crossing N: from where on the slower curve decides.
 ghost use mathlib.Core.Path.{_≡_};
 ghost use Prim.Native.Nat.{_+_, _-_, _*_, _≤_, max};
-ghost use Rattle.minplus.specs.Curve.{WellFormed, value};
+ghost use Rattle.minplus.specs.Curve.{value};
 ghost use Rattle.minplus.specs.Horizon as Def;
-ghost use Rattle.curve.specs.Steps.{curveFrom};
-ghost use Rattle.curve.specs.Held.{curveOf, heldAs};
+ghost use Rattle.curve.specs.Steps.{Lent, curveFrom};
+ghost use Rattle.curve.specs.Held.{heldAs, ratesOf};
 ghost use Rattle.curve.specs.Claimed.{operationOf};
-ghost use Rattle.horizon.specs.Reach.{choice, signedOf, Raisable, Extent, Small, Ready, Crossable, large, far, crossingN};
-use curve::Curve;
+ghost use Rattle.horizon.specs.Reach.{choice, signedOf, Limited, Raisable, Extent, Small, Ready, Crossable, large, far, crossingN};
 use curve::Form;
 use curve::Operation;
 use curve::Ticks;
@@ -62,7 +61,7 @@ fn extreme(
     start: Ticks,
     count: u32,
 ) -> Signed
-    requires { ⌜ Extent (curveFrom (heldAs form (now rises))) d c (start .0) count ⌝ }
+    requires { ⌜ Extent (heldAs form (now rises)) d c (start .0) count ⌝ }
     ensures { λ r. ⌜ signedOf r ≡ Def.extremeOf (choice greatest) (value (curveFrom (heldAs form (now (rises .entry))))) d c (start .0) count ⌝ }
     ensures { λ r. ⌜ Small large r ⌝ }
 {
@@ -81,34 +80,25 @@ fn extreme(
 }
 
 // The extreme over one period from the rank on.
-fn turning(greatest: bool, f: Curve) -> Signed
-    requires { ⌜ WellFormed (curveOf f) ⌝ }
-    ensures { λ r. ⌜ signedOf r ≡ Def.extremeOf (choice greatest) (value (curveOf f)) (f .form .period .0) (f .form .increment) (f .form .rank .0) (f .form .period .0) ⌝ }
+fn turning(greatest: bool, f: Form, left: &[u32]) -> Signed
+    requires { ⌜ Lent (heldAs f (now left)) ⌝ }
+    ensures { λ r. ⌜ signedOf r ≡ Def.extremeOf (choice greatest) (value (curveFrom (heldAs f (now (left .entry))))) (f .period .0) (f .increment) (f .rank .0) (f .period .0) ⌝ }
     ensures { λ r. ⌜ Small large r ⌝ }
 {
-    let form = f.form;
-    let d = form.period.0;
-    extreme(
-        greatest,
-        form,
-        &f.rises,
-        d as u64,
-        form.increment as u64,
-        form.rank,
-        d,
-    )
+    let d = f.period.0;
+    extreme(greatest, f, left, d as u64, f.increment as u64, f.rank, d)
 }
 
 // N from A and B.
-fn crossing(f: Curve, g: Curve, a: Signed, b: Signed) -> u64
-    requires { ⌜ Crossable (curveOf f) (curveOf g) a b ⌝ }
-    ensures { λ r. ⌜ r ≡ Def.crossing (curveOf f) (curveOf g) (signedOf a) (signedOf b) ⌝ }
+fn crossing(f: Form, g: Form, a: Signed, b: Signed) -> u64
+    requires { ⌜ Crossable (ratesOf f) (ratesOf g) a b ⌝ }
+    ensures { λ r. ⌜ r ≡ Def.crossing (ratesOf f) (ratesOf g) (signedOf a) (signedOf b) ⌝ }
     ensures { λ r. ⌜ r ≤ far ⌝ }
 {
-    let d = f.form.period.0 as u64;
-    let e = g.form.period.0 as u64;
+    let d = f.period.0 as u64;
+    let e = g.period.0 as u64;
     let ahead = excess(e * a.plus + d * b.minus, d * b.plus + e * a.minus);
-    let faster = g.form.increment as u64 * d - f.form.increment as u64 * e;
+    let faster = g.increment as u64 * d - f.increment as u64 * e;
     (ahead + (faster - 1)) / faster
 }
 
@@ -124,77 +114,75 @@ fn increased(a: Signed, b: Signed) -> Signed
 }
 
 // d*g(T') - c*T'.
-fn begun(f: Curve, g: Curve) -> Signed
-    requires { ⌜ Ready (curveOf f) (curveOf g) ⌝ }
-    ensures { λ r. ⌜ signedOf r ≡ Def.begunAt (curveOf f) (curveOf g) ⌝ }
+fn begun(f: Form, g: Form, right: &[u32]) -> Signed
+    requires { ⌜ Limited (ratesOf f) × Lent (heldAs g (now right)) ⌝ }
+    ensures { λ r. ⌜ signedOf r ≡ Def.begunAt (ratesOf f) (curveFrom (heldAs g (now (right .entry)))) ⌝ }
     ensures { λ r. ⌜ Small large r ⌝ }
 {
-    let d = f.form.period.0 as u64;
-    let c = f.form.increment as u64;
-    let form = g.form;
-    let rank = form.rank;
-    let value = value_at(form, &g.rises, rank);
+    let d = f.period.0 as u64;
+    let c = f.increment as u64;
+    let rank = g.rank;
+    let value = value_at(g, right, rank);
     let plus = d * value.0;
     let minus = c * rank.0 as u64;
     Signed { plus, minus }
 }
 
 // The least d'*f(t) - c'*t over 0 <= t < T, where there is such a t.
-fn earliest(f: Curve, g: Curve) -> Signed
-    requires { ⌜ Ready (curveOf f) (curveOf g) × (1 ≤ f .form .rank .0) ⌝ }
-    ensures { λ r. ⌜ signedOf r ≡ Def.earliest (curveOf f) (curveOf g) ⌝ }
+fn earliest(f: Form, left: &[u32], g: Form) -> Signed
+    requires { ⌜ Lent (heldAs f (now left)) × (Limited (ratesOf g) × (1 ≤ f .rank .0)) ⌝ }
+    ensures { λ r. ⌜ signedOf r ≡ Def.earliest (curveFrom (heldAs f (now (left .entry)))) (ratesOf g) ⌝ }
     ensures { λ r. ⌜ Small large r ⌝ }
 {
-    let form = f.form;
-    let t = form.rank.0;
+    let t = f.rank.0;
     extreme(
         false,
-        form,
-        &f.rises,
-        g.form.period.0 as u64,
-        g.form.increment as u64,
+        f,
+        left,
+        g.period.0 as u64,
+        g.increment as u64,
         Ticks(0),
         t,
     )
 }
 
 // With no tick below the rank the last list is empty, and N is 0.
-fn convolution_n(f: Curve, g: Curve) -> u64
-    requires { ⌜ Ready (curveOf f) (curveOf g) ⌝ }
-    ensures { λ r. ⌜ r ≡ Def.convolutionN (curveOf f) (curveOf g) ⌝ }
+fn convolution_n(f: Form, left: &[u32], g: Form, right: &[u32]) -> u64
+    requires { ⌜ Ready (heldAs f (now left)) (heldAs g (now right)) ⌝ }
+    ensures { λ r. ⌜ r ≡ Def.convolutionN (curveFrom (heldAs f (now (left .entry)))) (curveFrom (heldAs g (now (right .entry)))) ⌝ }
     ensures { λ r. ⌜ r ≤ far ⌝ }
 {
-    if f.form.rank.0 == 0 {
+    if f.rank.0 == 0 {
         return 0;
     }
-    let a = increased(turning(true, f), begun(f, g));
-    let b = increased(turning(false, g), earliest(f, g));
+    let a = increased(turning(true, f, left), begun(f, g, right));
+    let b = increased(turning(false, g, right), earliest(f, left, g));
     crossing(f, g, a, b)
 }
 
-fn crossing_n(operation: Operation, f: Curve, g: Curve) -> u64
-    requires { ⌜ Ready (curveOf f) (curveOf g) ⌝ }
-    ensures { λ r. ⌜ r ≡ crossingN (operationOf operation) (curveOf f) (curveOf g) ⌝ }
+fn crossing_n(operation: Operation, f: Form, left: &[u32], g: Form, right: &[u32]) -> u64
+    requires { ⌜ Ready (heldAs f (now left)) (heldAs g (now right)) ⌝ }
+    ensures { λ r. ⌜ r ≡ crossingN (operationOf operation) (curveFrom (heldAs f (now (left .entry)))) (curveFrom (heldAs g (now (right .entry)))) ⌝ }
     ensures { λ r. ⌜ r ≤ far ⌝ }
 {
     match operation {
         Operation::Sum => 0,
-        Operation::Minimum => crossing(f, g, turning(true, f), turning(false, g)),
-        Operation::Convolution => convolution_n(f, g),
+        Operation::Minimum => crossing(f, g, turning(true, f, left), turning(false, g, right)),
+        Operation::Convolution => convolution_n(f, left, g, right),
     }
 }
 
 // N, with the two swapped if g is slower.
-pub(crate) fn n_by_rates(operation: Operation, f: Curve, g: Curve) -> u64
-    requires { ⌜ WellFormed (curveOf f) × WellFormed (curveOf g) ⌝ }
-    ensures { λ r. ⌜ r ≡ Def.byRates (curveOf f) (curveOf g) 0 (crossingN (operationOf operation)) ⌝ }
+pub(crate) fn n_by_rates(operation: Operation, f: Form, left: &[u32], g: Form, right: &[u32]) -> u64
+    requires { ⌜ Lent (heldAs f (now left)) × Lent (heldAs g (now right)) ⌝ }
+    ensures { λ r. ⌜ r ≡ Def.byRates (curveFrom (heldAs f (now (left .entry)))) (curveFrom (heldAs g (now (right .entry)))) 0 (crossingN (operationOf operation)) ⌝ }
     ensures { λ r. ⌜ r ≤ far ⌝ }
 {
     if slower(f, g) {
-        return crossing_n(operation, f, g);
+        return crossing_n(operation, f, left, g, right);
     }
     if slower(g, f) {
-        return crossing_n(operation, g, f);
+        return crossing_n(operation, g, right, f, left);
     }
     0
 }

@@ -1,51 +1,35 @@
 -- A sound book as the code runs over it.
 --
---     ClaimTold s places st      what is known of a claim's field that is read as st: its curves are there and well
---                                formed, and so is it (claim-told)
---     claim-held                 a claim of curves in their working copies
---     verdict-given              the verdict on a well-formed claim (orUnjudged)
 --     Runs s book b              what the loop is given: a sound book as it is held, and a buffer with room for its
 --                                records
---     Ran s b out totals k     where it stands after k claims; ran-none, ran-more, ran-all: as it begins, after one
---                              more, and at the end
+--     runs-keeps                 its curves have room where they are kept
+--     Ran s b .. out totals k    where it stands after k claims; ran-none, ran-more, ran-all: as it begins, after one
+--                                more, and at the end
 --     claims-few, countable, sound-countable, length-written     how much is counted and written then
+--     claim-ready                what is known of the next claim
 use Prim.Native.Nat.{ℕ, _+_, _*_, _≤_, _<_}
 use mathlib.Core.Path.{_≡_, refl, sym, ap, subst, _∙_}
 use mathlib.Core.List.{List}
-use mathlib.Core.Option.{Option, none, some}
 use native.Mathlib.Omega.{arith}
 use lib.ListN.{length, getD}
-use Rattle.minplus.specs.Curve as M
-use Rattle.minplus.specs.Curve.{WellFormed}
-use Rattle.minplus.specs.Claim as C
-use Rattle.minplus.specs.Verdict.{Record, Verdict, notJudged, recordOf, verdict}
-use Rattle.curve.specs.declared.Curve.{Curve}
-use Rattle.curve.specs.declared.Claim.{Claim}
-use Rattle.curve.specs.Held.{curveOf, holding, holding-back}
+use Rattle.minplus.specs.Verdict.{Record, recordOf}
 use Rattle.curve.specs.Filled.{array-at}
-use Rattle.curve.specs.Claimed.{claimOf, claimOver}
-use Rattle.verdict.specs.declared.Judged.{Judged}
-use Rattle.verdict.specs.Given.{judgedOf, judgement}
-use Rattle.verdict.specs.Means.{is-verdict}
 use Rattle.numbers.specs.Put.{put, put-nothing, length-put}
-use Rattle.content.specs.declared.Stated.{Stated}
-use Rattle.content.specs.declared.ClaimField.the-variants as claim-field
 use Rattle.field.specs.Fields.{contentAt}
 use Rattle.content.specs.Refusals.{claimField}
-use Rattle.field.specs.Steps.{maxCurves, maxClaims}
-use Rattle.content.specs.Sound.{Stands}
+use Rattle.field.specs.Steps.{maxClaims}
 use Rattle.book.specs.declared.Places.{Places}
 use Rattle.book.specs.declared.Book.{Book}
 use Rattle.book.specs.Reading.{Contents, sound, readBook}
 use Rattle.book.specs.Held.{bookOf, placesOf}
-use Rattle.book.specs.Values.{curveNamed}
 use Rattle.book.specs.Sound.{SoundBook, sound-book}
 use Rattle.judge.specs.declared.Totals.{Totals}
 use Rattle.judge.specs.Answer.{recordSize}
-use Rattle.judge.specs.Claims.{claimOn, verdictIn, StandsOver, stands-over, claim-well, stands-array, verdict-array}
+use Rattle.judge.specs.Claims.{verdictIn, StandsOver, stands-over, stands-array, verdict-array}
 use Rattle.judge.specs.Records.{recordBytes, recordsTo, length-records, records-more}
 use Rattle.judge.specs.Totals.{Countable, totalsTo, counted, totals-more, totals-add-up}
 use Rattle.judge.specs.Run.{verdictAt, recordAt, codeAt, totalsOn, bufferOn}
+use Rattle.judge.specs.Kept.{ClaimReady, Keeps, Kept, formsRoom, risesRoom, verdictKept, kept-ready, kept-verdict}
 
 pub record Runs (s : List ℕ) (book : Book) (b : List ℕ) : Type 0 where
   pub contents : Contents
@@ -53,79 +37,46 @@ pub record Runs (s : List ℕ) (book : Book) (b : List ℕ) : Type 0 where
   pub held : book ≡ bookOf contents
   pub room : recordSize * length (contents .claims) ≤ length b
 
-pub record ClaimTold (s places : List ℕ) (st : Stated) : Type 0 where
-  pub left-named : st .left < maxCurves
-  pub right-named : st .right < maxCurves
-  pub claimed-named : st .claimed < maxCurves
-  pub left-well : WellFormed (curveNamed s places (st .left))
-  pub right-well : WellFormed (curveNamed s places (st .right))
-  pub claimed-well : WellFormed (curveNamed s places (st .claimed))
-  pub claim-well : C.WellFormedClaim (claimOn s places st)
-
-abbrev pub orUnjudged : Option Verdict → Verdict
-orUnjudged none = notJudged
-orUnjudged (some v) = v
-
 -- ---- laws
 
-pub claim-told : {s places : List ℕ} {curves p : ℕ} → StandsOver s places curves p → (st : Stated) → claimField curves (contentAt s p) ≡ claim-field.Stated st → ClaimTold s places st
-claim-told {s} {places} {curves} {p} over st e = let same : stands .stated ≡ st = cc (stands .so) in subst (ClaimTold s places) same so-far
-  where
-    stands : Stands curves (contentAt s p)
-    stands = over .stands
-
-    so-far : ClaimTold s places (over .stands .stated)
-    so-far = record {
-      left-named = omega (arith, stands .left-named, over .few);
-      right-named = omega (arith, stands .right-named, over .few);
-      claimed-named = omega (arith, stands .claimed-named, over .few);
-      left-well = over .each-well _ (stands .left-named);
-      right-well = over .each-well _ (stands .right-named);
-      claimed-well = over .each-well _ (stands .claimed-named);
-      claim-well = claim-well over;
-    }
-
--- curves in their working copies
-pub claim-held : (c : Claim) {f g h : Curve} (F G H : M.Curve) → f ≡ holding F → g ≡ holding G → h ≡ holding H → WellFormed F → WellFormed G → WellFormed H
-    → claimOf c f g h ≡ claimOver c F G H
-claim-held c {f} {g} {h} F G H e e′ e″ w w′ w″ =
-    let left : curveOf f ≡ F = ap curveOf e ∙ holding-back F w in
-    let right : curveOf g ≡ G = ap curveOf e′ ∙ holding-back G w′ in
-    let claimed : curveOf h ≡ H = ap curveOf e″ ∙ holding-back H w″ in
-    λ i. claimOver c (left i) (right i) (claimed i)
-
-pub verdict-given : (r : Judged) (c : C.Claim) → C.WellFormedClaim c → judgedOf r ≡ judgement c → orUnjudged (judgedOf r) ≡ verdict c
-verdict-given r c well meets = ap orUnjudged (is-verdict r c well meets)
+pub runs-keeps : {s b : List ℕ} {book : Book} → Runs s book b → (forms rises : List ℕ) → length forms ≡ formsRoom → length rises ≡ risesRoom → Keeps (book .curves) forms rises
+runs-keeps {s} {b} {book} runs forms rises room room′ = record {
+  few = omega (arith, ap (λ (x : Book). x .curves) (runs .held), sound-book s (runs .contents) (runs .so) .curves-fit);
+  forms-room = room;
+  rises-room = room′;
+}
 
 -- where a run stands after k claims
-pub record Ran (s b : List ℕ) (claims curves : ℕ) (places : Places) (out : List ℕ) (totals : Totals) (k : ℕ) : Type 0 where
+pub record Ran (s b : List ℕ) (claims curves : ℕ) (places : Places) (forms rises out : List ℕ) (totals : Totals) (k : ℕ) : Type 0 where
   pub contents : Contents
   pub so : readBook s ≡ sound contents
   pub claim-count : claims ≡ length (contents .claims)
   pub curve-count : curves ≡ length (contents .curves)
   pub held : places ≡ placesOf (contents .curves) (contents .claims)
+  pub kept : Kept s (places .curves) forms rises curves
   pub room : recordSize * length (contents .claims) ≤ length b
   pub records : out ≡ put b 0 (recordsTo (recordAt s contents) k)
   pub counts : totals ≡ totalsTo (codeAt s contents) k
   pub done : k ≤ length (contents .claims)
 
-pub ran-none : {s b : List ℕ} {book : Book} → Runs s book b
-    → Ran s b (book .claims) (book .curves) (book .places) b (record { accepted = 0; refuted = 0; unjudged = 0 }) 0
+pub ran-none : {s b forms rises : List ℕ} {book : Book} → Runs s book b → Kept s (book .places .curves) forms rises (book .curves)
+    → Ran s b (book .claims) (book .curves) (book .places) forms rises b (record { accepted = 0; refuted = 0; unjudged = 0 }) 0
 unfolding recordsTo totalsTo
-ran-none {s} {b} {book} runs = record {
+ran-none {s} {b} {book = book} runs kept = record {
   contents = runs .contents;
   so = runs .so;
   claim-count = ap (λ (x : Book). x .claims) (runs .held);
   curve-count = ap (λ (x : Book). x .curves) (runs .held);
   held = ap (λ (x : Book). x .places) (runs .held);
+  kept = kept;
   room = runs .room;
   records = sym (put-nothing b 0);
   counts = refl;
   done = omega arith;
 }
 
-module _ {s b : List ℕ} {claims curves : ℕ} {places : Places} {out : List ℕ} {totals : Totals} {k : ℕ}
-    (written : Ran s b claims curves places out totals k) where
+module _ {s b : List ℕ} {claims curves : ℕ} {places : Places} {forms rises out : List ℕ} {totals : Totals} {k : ℕ}
+    (written : Ran s b claims curves places forms rises out totals k) where
   abbrev c : Contents
   c = written .contents
 
@@ -157,8 +108,11 @@ module _ {s b : List ℕ} {claims curves : ℕ} {places : Places} {out : List �
         subst (λ (n : ℕ). StandsOver s (c .curves) n (getD (places .claims) k 0)) (sym (written .curve-count))
         (subst (StandsOver s (c .curves) (length (c .curves))) (sym place-is) (stands-over s c book-so k here))
 
-    pub stands-held : StandsOver s (places .curves) curves (getD (places .claims) k 0)
+    stands-held : StandsOver s (places .curves) curves (getD (places .claims) k 0)
     stands-held = subst (λ (x : Places). StandsOver s (x .curves) curves (getD (places .claims) k 0)) (sym (written .held)) (stands-array over (written .curve-count))
+
+    pub claim-ready : ClaimReady forms rises (claimField curves (contentAt s (getD (places .claims) k 0)))
+    claim-ready = kept-ready stands-held (written .kept)
 
     verdict-is : verdictIn s (places .curves) curves (getD (places .claims) k 0) ≡ verdictAt s c k
     unfolding verdictAt
@@ -170,17 +124,18 @@ module _ {s b : List ℕ} {claims curves : ℕ} {places : Places} {out : List �
     pub record-room : recordSize * k + recordSize ≤ length out
     record-room = omega (arith, length-written, written .room, here)
 
-    pub ran-more : {out′ : List ℕ} {totals′ : Totals} (r : Record) → r ≡ recordOf (verdictIn s (places .curves) curves (getD (places .claims) k 0))
+    pub ran-more : {out′ : List ℕ} {totals′ : Totals} (r : Record) → r ≡ recordOf (verdictKept forms rises (claimField curves (contentAt s (getD (places .claims) k 0))))
         → out′ ≡ put out (recordSize * k) (recordBytes r) → totals′ ≡ counted totals (r .code)
-        → Ran s b claims curves places out′ totals′ (k + 1)
+        → Ran s b claims curves places forms rises out′ totals′ (k + 1)
     ran-more r e e′ e″ =
-        let is : r ≡ recordAt s c k = e ∙ ap recordOf verdict-is in
+        let is : r ≡ recordAt s c k = e ∙ ap recordOf (kept-verdict stands-held (written .kept) ∙ verdict-is) in
         record {
           contents = c;
           so = written .so;
           claim-count = written .claim-count;
           curve-count = written .curve-count;
           held = written .held;
+          kept = written .kept;
           room = written .room;
           records =
               e′ ∙ ap (λ (x : Record). put out (recordSize * k) (recordBytes x)) is
@@ -192,7 +147,7 @@ module _ {s b : List ℕ} {claims curves : ℕ} {places : Places} {out : List �
           done = omega (arith, here);
         }
 
-pub ran-all : {s b : List ℕ} {claims curves : ℕ} {places : Places} {out : List ℕ} {totals : Totals} {k : ℕ} → Ran s b claims curves places out totals k → claims ≤ k
+pub ran-all : {s b : List ℕ} {claims curves : ℕ} {places : Places} {forms rises out : List ℕ} {totals : Totals} {k : ℕ} → Ran s b claims curves places forms rises out totals k → claims ≤ k
     → (totals ≡ totalsOn s (readBook s)) × (out ≡ bufferOn s b (readBook s))
 unfolding totalsOn bufferOn
 ran-all {s} {b} {k = k} written all =

@@ -1,53 +1,53 @@
-// One claim of a sound book: its curves are read where they stand.
+// One claim of a sound book, over the curves that are kept.
 ghost use mathlib.Core.Path.{_≡_};
-ghost use Prim.Native.Nat.{_<_};
+ghost use Prim.Native.Nat.{_≤_};
+ghost use lib.ListN.{length};
 ghost use Rattle.minplus.specs.Verdict.{recordOf};
-ghost use Rattle.curve.specs.Held.{holding};
-ghost use Rattle.verdict.specs.Given.{verdictOf, judgedOf, numbersOf};
-ghost use Rattle.field.specs.Steps.{maxCurves};
-ghost use Rattle.book.specs.Values.{curveNamed};
-ghost use Rattle.judge.specs.Claims.{verdictIn, StandsOver};
-ghost use Rattle.judge.specs.Held.{orUnjudged};
-use book::Places;
+ghost use Rattle.splits.specs.Parts.{workRoom};
+ghost use Rattle.verdict.specs.Given.{numbersOf};
+ghost use Rattle.content.specs.Refusals.{claimField};
+ghost use Rattle.field.specs.Fields.{contentAt};
+ghost use Rattle.judge.specs.Kept.{ClaimReady, formsRoom, risesRoom, verdictKept};
+use crate::curves::form_at;
+use crate::curves::rises_at;
 use content::ClaimField;
-use curve::Curve;
 use field::places::claim_at;
-use field::places::curve_at;
-use verdict::Judged;
 use verdict::Record;
 use verdict::Verdict;
 use verdict::record_of;
-use verdict::verdict_on;
-
-fn curve_named(book: &[u8], places: Places, n: usize) -> Curve
-    requires { ⌜ n < maxCurves ⌝ }
-    ensures { λ r. ⌜ r ≡ holding (curveNamed (now (book .entry)) (places .curves) n) ⌝ }
-{
-    let place = places.curves[n];
-    curve_at(book, place as usize)
-}
-
-// A well-formed claim has a verdict.
-fn verdict_given(judged: Judged) -> Verdict
-    ensures { λ r. ⌜ verdictOf r ≡ orUnjudged (judgedOf judged) ⌝ }
-{
-    match judged {
-        Judged::Verdict(v) => v,
-        Judged::IllFormed => Verdict::NotJudged,
-    }
-}
+use verdict::verdict_over;
 
 // The record on the claim whose field is at `place`, in a book of so many curves.
-pub(crate) fn record_at(book: &[u8], places: Places, curves: usize, place: usize) -> Record
-    requires { ⌜ StandsOver (now book) (places .curves) curves place ⌝ }
-    ensures { λ r. ⌜ numbersOf r ≡ recordOf (verdictIn (now (book .entry)) (places .curves) curves place) ⌝ }
+pub(crate) fn record_at(
+    book: &[u8],
+    place: usize,
+    curves: usize,
+    forms: &[u32],
+    rises: &[u32],
+    work: &mut [u32],
+) -> Record
+    requires { ⌜ ClaimReady (now forms) (now rises) (claimField curves (contentAt (now book) place)) × (length (now forms) ≡ formsRoom) × (length (now rises) ≡ risesRoom) × (workRoom ≤ length (now work)) ⌝ }
+    ensures { λ r. ⌜ numbersOf r ≡ recordOf (verdictKept (now (forms .entry)) (now (rises .entry)) (claimField curves (contentAt (now (book .entry)) place))) ⌝ }
 {
     let ClaimField::Stated(stated) = claim_at(book, place, curves) else {
         return record_of(Verdict::NotJudged);
     };
     let claim = stated.claim;
-    let f = curve_named(book, places, stated.left);
-    let g = curve_named(book, places, stated.right);
-    let h = curve_named(book, places, stated.claimed);
-    record_of(verdict_given(verdict_on(claim, f, g, h)))
+    let left = stated.left;
+    let right = stated.right;
+    let claimed = stated.claimed;
+    let f = form_at(forms, left);
+    let g = form_at(forms, right);
+    let h = form_at(forms, claimed);
+    let verdict = verdict_over(
+        claim,
+        f,
+        rises_at(rises, left),
+        g,
+        rises_at(rises, right),
+        h,
+        rises_at(rises, claimed),
+        work,
+    );
+    record_of(verdict)
 }

@@ -8,6 +8,7 @@ use content::Refusal;
 
 mod answers;
 mod claims;
+mod curves;
 mod records;
 
 use crate::answers::refused;

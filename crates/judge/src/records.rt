@@ -11,8 +11,12 @@ ghost use Rattle.judge.specs.Held.{Runs};
 use crate::Totals;
 use crate::answers::counted;
 use crate::claims::record_at;
+use crate::curves::FORMS;
+use crate::curves::RISES;
+use crate::curves::keep_all;
 use book::Book;
 use numbers::put;
+use splits::WORK;
 
 fn put_record(out: &mut [u8], at: usize, code: u64, tick: u64, left: u64, right: u64)
     requires { ⌜ at + recordSize ≤ length (now out) ⌝ }
@@ -32,6 +36,10 @@ pub(crate) fn run(book: &[u8], sound: Book, verdicts: &mut [u8]) -> Totals
     let claims = sound.claims;
     let curves = sound.curves;
     let places = sound.places;
+    let mut forms = [0u32; FORMS];
+    let mut rises = [0u32; RISES];
+    keep_all(book, places, curves, &mut forms, &mut rises);
+    let mut work = [0u32; WORK];
     let mut totals = Totals {
         accepted: 0,
         refuted: 0,
@@ -40,7 +48,7 @@ pub(crate) fn run(book: &[u8], sound: Book, verdicts: &mut [u8]) -> Totals
     let mut k: usize = 0;
     while k < claims {
         let place = places.claims[k];
-        let told = record_at(book, places, curves, place as usize);
+        let told = record_at(book, place as usize, curves, &forms, &rises, &mut work);
         let tick = told.tick;
         let left = told.left;
         let right = told.right;

@@ -7,11 +7,10 @@
 --                           verdict (judgement-some)
 --     verdict-far           which is "not judged" beyond the limit,
 --     ordered, verdict-near     and within it goes by what the tests find, in the order of the codes
-use Prim.Native.Nat.{ℕ, _<_}
+use Prim.Native.Nat.{ℕ, _≤_, _<_}
 use mathlib.Core.Path.{_≡_, refl, sym, ap, _∙_}
 use mathlib.Core.Bool.{Bool, true, false}
 use mathlib.Core.Option.{Option, none, some}
-use native.Mathlib.Omega.{arith}
 use borrow.Author.Tests.{lt-ltb, le-ltb}
 use Rattle.minplus.specs.Claim.{Claim, wellFormedClaim}
 use Rattle.minplus.specs.Horizon.{horizon, maxHorizon}
@@ -22,10 +21,10 @@ use Rattle.verdict.specs.declared.Verdict.the-variants.{Accepted, Refute
 use Rattle.verdict.specs.declared.Judged.{Judged}
 use Rattle.verdict.specs.declared.Judged.the-variants as Judged
 use Rattle.verdict.specs.declared.Record.{Record}
-use Rattle.verdict.specs.declared.search.Found.{Found}
-use Rattle.verdict.specs.declared.search.Found.the-variants.{At, Nowhere}
-use Rattle.verdict.specs.Found.{foundFrom, foundOf}
-use Rattle.verdict.specs.Break.{Judgeable, breakOf}
+use Rattle.search.specs.declared.Found.{Found}
+use Rattle.search.specs.declared.Found.the-variants.{At, Nowhere}
+use Rattle.search.specs.Found.{foundFrom, foundOf}
+use Rattle.search.specs.Break.{breakOf}
 
 abbrev pub verdictOf : Verdict → C.Verdict
 verdictOf Accepted = accepted
@@ -83,11 +82,11 @@ ordered Nowhere true less = refutedByRate
 ordered Nowhere false true = notLeast
 ordered Nowhere false false = accepted
 
-pub verdict-near : {c : Claim} {at : ℕ} → Judgeable c at → (found : Found) (rate less : Bool)
+pub verdict-near : (c : Claim) → horizon c ≤ maxHorizon → (found : Found) (rate less : Bool)
     → found ≡ breakOf c → rate ≡ byRate c → less ≡ lessHolds c → ordered found rate less ≡ verdict c
 unfolding verdict foundOf firstBreak
-verdict-near {c} j found rate less e e′ e″ =
-    rw (le-ltb maxHorizon (horizon c) (omega (arith, j .is-horizon, j .within)), e, e′, e″) (go (firstBreak c) (byRate c) (lessHolds c))
+verdict-near c near found rate less e e′ e″ =
+    rw (le-ltb maxHorizon (horizon c) near, e, e′, e″) (go (firstBreak c) (byRate c) (lessHolds c))
   where
     go : (o : Option ℕ) (rate less : Bool) → ordered (foundFrom (leftAt c) (rightAt c) o) rate less ≡ codesInOrder c false o rate less
     go (some n) rate less = refl

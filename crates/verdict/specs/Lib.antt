@@ -1,5 +1,3 @@
--- What the code finds and answers, in the words of the crate minplus.
-pub mod Found
-pub mod Break
+-- What the code answers, in the words of the crate minplus.
 pub mod Given
 pub mod Means

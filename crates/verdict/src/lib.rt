@@ -1,22 +1,29 @@
 // One claim over its curves: the verdict.
 ghost use mathlib.Core.Path.{_≡_};
+ghost use Prim.Native.Nat.{_≤_};
+ghost use lib.ListN.{length};
 ghost use Rattle.minplus.specs.Verdict.{verdict, recordOf};
-ghost use Rattle.curve.specs.Claimed.{claimOf};
-ghost use Rattle.verdict.specs.Break.{Judgeable};
+ghost use Rattle.curve.specs.Steps.{curveFrom};
+ghost use Rattle.curve.specs.Held.{heldAs};
+ghost use Rattle.curve.specs.Claimed.{LentClaim, claimOf, claimOver};
+ghost use Rattle.search.specs.Break.{Judgeable, breakOf};
+ghost use Rattle.splits.specs.Parts.{workRoom};
 ghost use Rattle.verdict.specs.Given.{verdictOf, numbersOf, judgedOf, judgement};
 use curve::Claim;
 use curve::Curve;
+use curve::Form;
+use curve::Operation;
 use curve::Ticks;
 use curve::Units;
 use curve::rates::slower;
-use horizon::Horizon;
-use horizon::horizon_of;
-
-mod search;
-
-use crate::search::Found;
-use crate::search::first_break;
-use crate::search::less_holds;
+use horizon::horizon_over;
+use limits::well_formed_claim;
+use search::Found;
+use search::bounds::first_over;
+use search::less_holds;
+use search::results::first_unlike;
+use splits::WORK;
+use splits::first_apart;
 
 pub enum Verdict {
     Accepted,
@@ -44,12 +51,52 @@ pub struct Record {
     pub right: Units,
 }
 
-// The codes in their order, for a claim whose horizon is within the limit.
-fn in_order(claim: Claim, f: Curve, g: Curve, h: Curve, horizon: usize) -> Verdict
-    requires { ⌜ Judgeable (claimOf claim f g h) horizon ⌝ }
-    ensures { λ r. ⌜ verdictOf r ≡ verdict (claimOf claim f g h) ⌝ }
+// The first tried tick that breaks the claim's rule, of curves that are lent and known to be well formed. Kinds 1 to 3
+// try the horizon too.
+fn first_break(
+    claim: Claim,
+    f: Form,
+    left: &[u32],
+    g: Form,
+    right: &[u32],
+    h: Form,
+    claimed: &[u32],
+    horizon: usize,
+    work: &mut [u32],
+) -> Found
+    requires { ⌜ Judgeable claim (heldAs f (now left)) (heldAs g (now right)) (heldAs h (now claimed)) horizon × (workRoom ≤ length (now work)) ⌝ }
+    ensures { λ r. ⌜ r ≡ breakOf (claimOver claim (curveFrom (heldAs f (now (left .entry)))) (curveFrom (heldAs g (now (right .entry)))) (curveFrom (heldAs h (now (claimed .entry))))) ⌝ }
 {
-    if let Found::At { tick, left, right } = first_break(claim, f, g, h, horizon) {
+    match claim {
+        Claim::Equals(operation) => match operation {
+            Operation::Sum => { first_unlike(false, f, left, g, right, h, claimed, horizon + 1) }
+            Operation::Minimum => { first_unlike(true, f, left, g, right, h, claimed, horizon + 1) }
+            Operation::Convolution => {
+                first_apart(f, left, g, right, h, claimed, horizon + 1, work)
+            }
+        },
+        Claim::AtMost(deviation) => first_over(deviation, f, left, g, right, horizon),
+        Claim::Exactly(deviation) => first_over(deviation, f, left, g, right, horizon),
+    }
+}
+
+// The codes in their order, for a claim whose horizon is within the limit.
+fn in_order(
+    claim: Claim,
+    f: Form,
+    left: &[u32],
+    g: Form,
+    right: &[u32],
+    h: Form,
+    claimed: &[u32],
+    horizon: usize,
+    work: &mut [u32],
+) -> Verdict
+    requires { ⌜ Judgeable claim (heldAs f (now left)) (heldAs g (now right)) (heldAs h (now claimed)) horizon × (workRoom ≤ length (now work)) ⌝ }
+    ensures { λ r. ⌜ verdictOf r ≡ verdict (claimOver claim (curveFrom (heldAs f (now (left .entry)))) (curveFrom (heldAs g (now (right .entry)))) (curveFrom (heldAs h (now (claimed .entry))))) ⌝ }
+{
+    let found = first_break(claim, f, left, g, right, h, claimed, horizon, work);
+    if let Found::At { tick, left, right } = found {
         return Verdict::RefutedAt { tick, left, right };
     }
     match claim {
@@ -64,7 +111,7 @@ fn in_order(claim: Claim, f: Curve, g: Curve, h: Curve, horizon: usize) -> Verdi
         Claim::Exactly(deviation) => {
             if slower(g, f) {
                 Verdict::RefutedByRate
-            } else if less_holds(deviation, f, g, horizon) {
+            } else if less_holds(deviation, f, left, g, right, horizon) {
                 Verdict::NotLeast
             } else {
                 Verdict::Accepted
@@ -73,17 +120,47 @@ fn in_order(claim: Claim, f: Curve, g: Curve, h: Curve, horizon: usize) -> Verdi
     }
 }
 
-// Nothing is tried for a claim whose horizon is above the limit.
+// Of curves that are lent and known to be well formed, with numbers to work in. Nothing is tried for a claim whose
+// horizon is above the limit.
+pub fn verdict_over(
+    claim: Claim,
+    f: Form,
+    left: &[u32],
+    g: Form,
+    right: &[u32],
+    h: Form,
+    claimed: &[u32],
+    work: &mut [u32],
+) -> Verdict
+    requires { ⌜ LentClaim claim (heldAs f (now left)) (heldAs g (now right)) (heldAs h (now claimed)) × (workRoom ≤ length (now work)) ⌝ }
+    ensures { λ r. ⌜ verdictOf r ≡ verdict (claimOver claim (curveFrom (heldAs f (now (left .entry)))) (curveFrom (heldAs g (now (right .entry)))) (curveFrom (heldAs h (now (claimed .entry))))) ⌝ }
+{
+    let horizon = horizon_over(claim, f, left, g, right, h);
+    if (Claim::MAX_HORIZON as u64) < horizon {
+        return Verdict::NotJudged;
+    }
+    let near = horizon as usize;
+    in_order(claim, f, left, g, right, h, claimed, near, work)
+}
+
+// Of any claim.
 pub fn verdict_on(claim: Claim, f: Curve, g: Curve, h: Curve) -> Judged
     ensures { λ r. ⌜ judgedOf r ≡ judgement (claimOf claim f g h) ⌝ }
 {
-    let Horizon::At(horizon) = horizon_of(claim, f, g, h) else {
+    if !well_formed_claim(claim, f, g, h) {
         return Judged::IllFormed;
-    };
-    if (Claim::MAX_HORIZON as u64) < horizon {
-        return Judged::Verdict(Verdict::NotJudged);
     }
-    Judged::Verdict(in_order(claim, f, g, h, horizon as usize))
+    let mut work = [0u32; WORK];
+    Judged::Verdict(verdict_over(
+        claim,
+        f.form,
+        &f.rises,
+        g.form,
+        &g.rises,
+        h.form,
+        &h.rises,
+        &mut work,
+    ))
 }
 
 // A record in which all but the code is 0.

@@ -1,7 +1,6 @@
 use Prim.Native.Nat.{_≤_}
 use native.Mathlib.Omega.{arith}
 use native.Mathlib.Nat.{mul-le-mul}
-use Rattle.minplus.specs.Curve.{period-fits}
 use Rattle.minplus.specs.Divisor.{lcm-at-most}
 use Rattle.minplus.specs.Horizon.{commonPeriod}
 use borrow.Author.Needs.{needs}
@@ -12,7 +11,7 @@ common-multiple-requires : tie.Need-common-multiple-requires
 common-multiple-requires c κs = search needs
 
 fits : (c : tie.After-common-multiple) → c .common-multiple .result ≤ 65_536
-fits c = omega (arith, c .common-multiple .ensures, lcm-at-most (c .before .args .f .form .period .0) (c .before .args .g .form .period .0), mul-le-mul (period-fits (c .before .pre .0)) (period-fits (c .before .pre .1)))
+fits c = omega (arith, c .common-multiple .ensures, lcm-at-most (c .before .args .f .period .0) (c .before .args .g .period .0), mul-le-mul (c .before .pre .0 .period-fits) (c .before .pre .1 .period-fits))
 
 cast-result : tie.Need-cast-result
 cast-result c = omega (arith, fits c)

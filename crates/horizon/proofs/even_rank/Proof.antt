@@ -1,5 +1,4 @@
 use native.Mathlib.Omega.{arith}
-use Rattle.minplus.specs.Curve.{rank-fits}
 use Rattle.horizon.specs.Reach.{evenRank}
 use borrow.Author.Needs.{needs}
 use Rattle.horizon.proofs.even_rank.Statement.{statement}
@@ -54,20 +53,20 @@ returns : tie.Need-returns
 unfolding evenRank
 returns c =
     let w = c .before .before .before .before .before .pre in
-    rw (c .before .before .before .enum-told .given .1) (c .larger .ensures, omega (arith, c .larger .ensures, rank-fits (w .0), rank-fits (w .1)))
+    rw (c .before .before .before .enum-told .given .1) (c .larger .ensures, omega (arith, c .larger .ensures, w .0 .rank-fits, w .1 .rank-fits))
 
 returns-2 : tie.Need-returns-2
 unfolding evenRank
 returns-2 c =
     let w = c .before .before .before .before .before .pre in
-    rw (c .before .before .before .enum-told2 .given .1) (c .larger2 .ensures, omega (arith, c .larger2 .ensures, rank-fits (w .0), rank-fits (w .1)))
+    rw (c .before .before .before .enum-told2 .given .1) (c .larger2 .ensures, omega (arith, c .larger2 .ensures, w .0 .rank-fits, w .1 .rank-fits))
 
 returns-3 : tie.Need-returns-3
 unfolding evenRank
 returns-3 c =
     let w = c .before .before .before .before .before .pre in
     rw (c .before .before .before .enum-told3 .given .1)
-    (rw (c .common-period .ensures .0), omega (arith, c .common-period .ensures .1, rank-fits (w .0), rank-fits (w .1)))
+    (rw (c .common-period .ensures .0), omega (arith, c .common-period .ensures .1, w .0 .rank-fits, w .1 .rank-fits))
 
 pub even-rank-spec : {M : Type 1} → statement M
 even-rank-spec =

@@ -1,125 +1,92 @@
+use Prim.Native.Nat.{ℕ}
 use mathlib.Core.Path.{_≡_, sym, ap, _∙_}
-use Rattle.minplus.specs.Claim.{kindBy}
-use Rattle.curve.specs.Kinds.{namedAs, namedBy}
+use Rattle.curve.specs.declared.Named.{Named}
+use Rattle.curve.specs.declared.Named.the-variants.{UnknownKind, XTooLarge}
+use Rattle.content.specs.declared.Refusal.the-variants.{WrongClaim, NoSuchCurve, TooLarge}
+use Rattle.content.specs.declared.Checked.the-variants.{Sound, Refused}
+use Rattle.content.specs.declared.ClaimField.the-variants.{Stated}
 use Rattle.content.specs.Layout.{Statement}
-use Rattle.content.specs.Refusals.{statementField}
-use Rattle.content.specs.Claims.{orFar, claim-unknown, claim-far, claim-named}
+use Rattle.content.specs.Refusals.{noneNamed, statementFault, on-sound}
+use Rattle.content.specs.Claims.{namedFault, fault-named, field-refused, field-stated}
 use borrow.Author.Needs.{needs}
 use Rattle.content.proofs.claims.statement.Statement.{statement}
 use Rattle.content.proofs.claims.statement.Tie as tie
 
-abbrev said : tie.After-new → Statement
-said c = let a = c .before .args in record { kind = a .kind; left = a .left; right = a .right; third = a .third }
+abbrev said : tie.After-named-fault → Statement
+said c = let a = c .before .before .args in record { kind = a .kind; left = a .left; right = a .right; third = a .third }
 
-asked : (c : tie.After-new) → namedAs (kindBy (said c .kind)) (said c .third) ≡ c .new .result
-unfolding namedBy
-asked c = sym (c .new .ensures)
+abbrev curves : tie.After-named-fault → ℕ
+curves c = c .before .before .args .curves
+
+due : (c : tie.After-named-fault) → statementFault (curves c) (said c) ≡ c .named-fault .result
+due c = fault-named (curves c) (said c) ∙ sym (rw (c .before .new .ensures) at (c .named-fault .ensures))
+
+-- where nothing is refused, a claim is named
+sound : (c : tie.After-enum-told) → statementFault (curves (c .before .before)) (said (c .before .before)) ≡ Sound
+sound c = due (c .before .before) ∙ c .enum-told .given .1
+
+by : (c : tie.After-enum-told) (n : Named) → c .before .before .before .new .result ≡ n
+    → namedFault n (curves (c .before .before)) (said (c .before .before) .left) (said (c .before .before) .right) (said (c .before .before) .third) ≡ Sound
+by c n e = rw e at (sym (c .before .before .named-fault .ensures) ∙ c .enum-told .given .1)
 
 new-requires : tie.Need-new-requires
 new-requires c κs = search needs
 
-enum-told : tie.Need-enum-told
-enum-told c = search needs
+named-fault-requires : tie.Need-named-fault-requires
+named-fault-requires c κs = search needs
 
-enum-told-2 : tie.Need-enum-told-2
-enum-told-2 c = search needs
-
-unnamed-requires : tie.Need-unnamed-requires
-unnamed-requires c κs = search needs
+enum-known-fault : tie.Need-enum-known-fault
+enum-known-fault c = search needs
 
 returns : tie.Need-returns
-unfolding statementField
-returns c =
-    let p = c .before .before .before .before in
-    sym (claim-far (kindBy (said p .kind)) (p .before .args .curves) (said p) (asked p ∙ c .before .before .enum-told2 .given .1)
-    ∙ ap orFar (sym (c .before .unnamed .ensures) ∙ c .if1 .taken))
+returns c = let p = c .before .before .before in sym (field-refused (curves p) (said p) _ (due p ∙ c .before .fault .given .1))
+
+enum-told : tie.Need-enum-told
+enum-told c = search needs
 
 enum-known-named : tie.Need-enum-known-named
 enum-known-named c = search needs
 
-enum-told-3 : tie.Need-enum-told-3
-enum-told-3 c = search needs
-
-unnamed-requires-2 : tie.Need-unnamed-requires-2
-unnamed-requires-2 c κs = search needs
-
 stated-requires : tie.Need-stated-requires
 stated-requires c κs = search needs
 
-enum-told-4 : tie.Need-enum-told-4
-enum-told-4 c = search needs
+enum-told-2 : tie.Need-enum-told-2
+enum-told-2 c = search needs
 
-unnamed-requires-3 : tie.Need-unnamed-requires-3
-unnamed-requires-3 c κs = search needs
-
-stated-requires-2 : tie.Need-stated-requires-2
-stated-requires-2 c κs = search needs
-
-enum-told-5 : tie.Need-enum-told-5
-enum-told-5 c = search needs
-
-unnamed-requires-4 : tie.Need-unnamed-requires-4
-unnamed-requires-4 c κs = search needs
-
-stated-requires-3 : tie.Need-stated-requires-3
-stated-requires-3 c κs = search needs
+enum-told-3 : tie.Need-enum-told-3
+enum-told-3 c = search needs
 
 returns-2 : tie.Need-returns-2
-unfolding statementField
-returns-2 c = let p = c .before .before in sym (claim-unknown (kindBy (said p .kind)) (p .before .args .curves) (said p) (asked p ∙ c .enum-told .given .1))
+returns-2 c =
+    let told = c .before .before .before .before in
+    let p = told .before .before in
+    ap Stated (c .stated .ensures) ∙ sym (field-stated (curves p) (said p) _ (sound told) (sym (p .before .new .ensures) ∙ c .before .before .named .given .1))
 
 returns-3 : tie.Need-returns-3
-unfolding statementField
-returns-3 c =
-    let p = c .before .before .before .before in
-    sym (claim-far (kindBy (said p .kind)) (p .before .args .curves) (said p) (asked p ∙ c .before .before .enum-told2 .given .1)
-    ∙ ap orFar (sym (c .before .unnamed .ensures) ∙ c .if1 .left))
+unfolding namedFault
+returns-3 c = let none : Refused WrongClaim ≡ Sound = by (c .before .before) UnknownKind (c .enum-told2 .given .1) in cc
 
 returns-4 : tie.Need-returns-4
-unfolding statementField
+unfolding namedFault
 returns-4 c =
-    let p = c .before .before .before .before .before .before .before in
-    let told = c .before .before .enum-told3 .given .1 in
-    let due = claim-named (kindBy (said p .kind)) (p .before .args .curves) (said p) _ (asked p ∙ c .before .before .before .before .before .named .given .1) in
-    (rw (c .before .unnamed2 .ensures, told) at (c .stated .ensures)) ∙ sym (rw told at due)
-
-returns-5 : tie.Need-returns-5
-unfolding statementField
-returns-5 c =
-    let p = c .before .before .before .before .before .before .before in
-    let told = c .before .before .enum-told4 .given .1 in
-    let due = claim-named (kindBy (said p .kind)) (p .before .args .curves) (said p) _ (asked p ∙ c .before .before .before .before .before .named .given .1) in
-    (rw (c .before .unnamed3 .ensures, told) at (c .stated2 .ensures)) ∙ sym (rw told at due)
-
-returns-6 : tie.Need-returns-6
-unfolding statementField
-returns-6 c =
-    let p = c .before .before .before .before .before .before .before in
-    let told = c .before .before .enum-told5 .given .1 in
-    let due = claim-named (kindBy (said p .kind)) (p .before .args .curves) (said p) _ (asked p ∙ c .before .before .before .before .before .named .given .1) in
-    (rw (c .before .unnamed4 .ensures, told) at (c .stated3 .ensures)) ∙ sym (rw told at due)
+    let p = c .before .before .before .before in
+    let ids = noneNamed (curves p) (said p .left) (said p .right) (said p .right) in
+    let none : Refused TooLarge ≡ Sound = on-sound ids NoSuchCurve (Refused TooLarge) (by (c .before .before) XTooLarge (c .enum-told3 .given .1)) .1 in
+    cc
 
 pub statement-spec : {M : Type 1} → statement M
 statement-spec =
     tie.close
     (tie.spec
     new-requires
-    enum-told
-    enum-told-2
-    unnamed-requires
+    named-fault-requires
+    enum-known-fault
     returns
+    enum-told
     enum-known-named
-    enum-told-3
-    unnamed-requires-2
     stated-requires
-    enum-told-4
-    unnamed-requires-3
-    stated-requires-2
-    enum-told-5
-    unnamed-requires-4
-    stated-requires-3
+    enum-told-2
+    enum-told-3
     returns-2
     returns-3
-    returns-4
-    returns-5
-    returns-6)
+    returns-4)

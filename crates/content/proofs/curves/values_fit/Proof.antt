@@ -1,7 +1,8 @@
 use Prim.Native.Nat.{ℕ, _-_, _≤_}
-use mathlib.Core.Path.{_≡_, refl, sym}
-use mathlib.Core.Bool.{Bool, true}
+use mathlib.Core.Path.{_≡_, refl, sym, _∙_}
+use mathlib.Core.Bool.{Bool}
 use mathlib.Core.List.{List}
+use mathlib.Core.Logic.{⊎-elim}
 use native.Mathlib.Omega.{arith}
 use lib.ListN.{length, getD}
 use lib.Dec.{leb}
@@ -10,7 +11,7 @@ use borrow.Author.Tests.{le-leb, lt-leb}
 use Rattle.minplus.specs.Curve.{maxUnits}
 use Rattle.minplus.specs.Search.{allBelow}
 use Rattle.content.specs.Refusals.{valuesFit}
-use Rattle.content.proofs.Laws.{all-more, all-not}
+use Rattle.content.proofs.Laws.{all-kept, all-lost}
 use Rattle.content.proofs.curves.values_fit.Statement.{statement}
 use Rattle.content.proofs.curves.values_fit.Tie as tie
 
@@ -18,10 +19,10 @@ abbrev fits : List ℕ → ℕ → Bool
 fits values n = leb (getD values n 0) maxUnits
 
 abbrev Inv-loop : tie.InvT-loop
-Inv-loop values n₀ n = (n ≤ length values) × (allBelow (fits values) n ≡ true)
+Inv-loop values fit₀ n₀ fit n = (n ≤ length values) × (fit ≡ allBelow (fits values) n)
 
 abbrev μ-loop : tie.MeasureT-loop
-μ-loop values n₀ n = length values - n
+μ-loop values fit₀ n₀ fit n = length values - n
 
 loop-holds : tie.Need-loop-holds Inv-loop μ-loop
 unfolding allBelow
@@ -33,13 +34,6 @@ mul-if1 c = omega arith
 shared-slice-read-if1 : tie.Need-shared-slice-read-if1 Inv-loop μ-loop
 shared-slice-read-if1 c = omega arith
 
-returns : tie.Need-returns Inv-loop μ-loop
-unfolding valuesFit
-returns c =
-    let values = now (c .before .before .before .before .args .values) in
-    let at = c .before .before .before .loop .n in
-    sym (all-not (fits values) (length values) at (omega arith) (lt-leb (getD values at 0) maxUnits (c .if1 .taken)))
-
 add-n : tie.Need-add-n Inv-loop μ-loop
 add-n c = omega arith
 
@@ -50,13 +44,19 @@ loop-again : tie.Need-loop-again Inv-loop μ-loop
 loop-again c =
     let values = now (c .before .before .before .before .args .values) in
     let now-at = c .before .before .before .loop in
-    (omega arith, all-more (fits values) (now-at .n) (now-at .inv .1) (le-leb (getD values (now-at .n) 0) maxUnits (c .if1 .left)))
+    let n = now-at .n in (
+      omega arith,
+      ⊎-elim
+          (λ w. w .1 ∙ sym (all-lost (fits values) n (lt-leb (getD values n 0) maxUnits (w .0 .taken))))
+          (λ w. w .1 ∙ now-at .inv .1 ∙ sym (all-kept (fits values) n (le-leb (getD values n 0) maxUnits (w .0 .left))))
+          (c .if1 .came),
+    )
 
-returns-2 : tie.Need-returns-2 Inv-loop μ-loop
+returns : tie.Need-returns Inv-loop μ-loop
 unfolding valuesFit
-returns-2 c =
+returns c =
     let e : length (now (c .before .before .args .values)) ≡ c .before .loop .n = omega arith in
-    rw e (sym (c .before .loop .inv .1))
+    rw e (c .before .loop .inv .1)
 
 pub values-fit-spec : {M : Type 1} → statement M
 values-fit-spec =
@@ -67,8 +67,7 @@ values-fit-spec =
     loop-holds
     mul-if1
     shared-slice-read-if1
-    returns
     add-n
     loop-less
     loop-again
-    returns-2)
+    returns)

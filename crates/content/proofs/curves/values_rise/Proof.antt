@@ -1,7 +1,8 @@
 use Prim.Native.Nat.{ℕ, suc, _-_, _≤_, _<_}
-use mathlib.Core.Path.{_≡_, refl, sym, ap}
-use mathlib.Core.Bool.{Bool, true}
+use mathlib.Core.Path.{_≡_, refl, sym, ap, _∙_}
+use mathlib.Core.Bool.{Bool}
 use mathlib.Core.List.{List}
+use mathlib.Core.Logic.{⊎-elim}
 use native.Mathlib.Omega.{arith}
 use native.Mathlib.Numerals.{add-one}
 use lib.ListN.{length, getD}
@@ -10,7 +11,7 @@ use denote.Ref.{now}
 use borrow.Author.Tests.{le-leb, lt-leb}
 use Rattle.minplus.specs.Search.{allBelow}
 use Rattle.content.specs.Refusals.{valuesRise}
-use Rattle.content.proofs.Laws.{all-more, all-not}
+use Rattle.content.proofs.Laws.{all-kept, all-lost}
 use Rattle.content.proofs.curves.values_rise.Statement.{statement}
 use Rattle.content.proofs.curves.values_rise.Tie as tie
 
@@ -21,10 +22,10 @@ abbrev rises : List ℕ → ℕ → Bool
 rises values n = leb (at values n) (at values (suc n))
 
 abbrev Inv-loop : tie.InvT-loop
-Inv-loop values n₀ n = (n ≤ length values - 1) × (allBelow (rises values) n ≡ true)
+Inv-loop values rise₀ n₀ rise n = (n ≤ length values - 1) × (rise ≡ allBelow (rises values) n)
 
 abbrev μ-loop : tie.MeasureT-loop
-μ-loop values n₀ n = length values - n
+μ-loop values rise₀ n₀ rise n = length values - n
 
 loop-holds : tie.Need-loop-holds Inv-loop μ-loop
 unfolding allBelow
@@ -48,14 +49,6 @@ mul-if1-2 c = omega arith
 shared-slice-read-if1-2 : tie.Need-shared-slice-read-if1-2 Inv-loop μ-loop
 shared-slice-read-if1-2 c = omega arith
 
-returns : tie.Need-returns Inv-loop μ-loop
-unfolding valuesRise
-returns c =
-    let values = now (c .before .before .before .before .before .args .values) in
-    let n = c .before .before .before .before .loop .n in
-    let falls : at values (suc n) < at values n = omega (arith, ap (at values) (add-one n), c .if1 .taken) in
-    sym (all-not (rises values) (length values - 1) n (omega arith) (lt-leb _ _ falls))
-
 add-n : tie.Need-add-n Inv-loop μ-loop
 add-n c = omega arith
 
@@ -66,14 +59,22 @@ loop-again : tie.Need-loop-again Inv-loop μ-loop
 loop-again c =
     let values = now (c .before .before .before .before .before .args .values) in
     let now-at = c .before .before .before .before .loop in
-    let rise : at values (now-at .n) ≤ at values (suc (now-at .n)) = omega (arith, ap (at values) (add-one (now-at .n)), c .if1 .left) in
-    (omega arith, all-more (rises values) (now-at .n) (now-at .inv .1) (le-leb _ _ rise))
+    let n = now-at .n in
+    let next = ap (at values) (add-one n) in (
+      omega arith,
+      ⊎-elim
+          (λ w. let falls : at values (suc n) < at values n = omega (arith, next, w .0 .taken) in
+          w .1 ∙ sym (all-lost (rises values) n (lt-leb _ _ falls)))
+          (λ w. let rise : at values n ≤ at values (suc n) = omega (arith, next, w .0 .left) in
+          w .1 ∙ now-at .inv .1 ∙ sym (all-kept (rises values) n (le-leb _ _ rise)))
+          (c .if1 .came),
+    )
 
-returns-2 : tie.Need-returns-2 Inv-loop μ-loop
+returns : tie.Need-returns Inv-loop μ-loop
 unfolding valuesRise
-returns-2 c =
+returns c =
     let e : length (now (c .before .before .args .values)) - 1 ≡ c .before .loop .n = omega arith in
-    rw e (sym (c .before .loop .inv .1))
+    rw e (c .before .loop .inv .1)
 
 pub values-rise-spec : {M : Type 1} → statement M
 values-rise-spec =
@@ -88,8 +89,7 @@ values-rise-spec =
     shared-slice-read-if1
     mul-if1-2
     shared-slice-read-if1-2
-    returns
     add-n
     loop-less
     loop-again
-    returns-2)
+    returns)

@@ -9,26 +9,29 @@ use borrow.Author.Needs.{needs}
 enum-told : tie.Need-enum-told
 enum-told c = search needs
 
+number1-requires : tie.Need-number1-requires
+number1-requires c κs = search needs
+
 enum-told-2 : tie.Need-enum-told-2
 enum-told-2 c = search needs
 
-add-t6 : tie.Need-add-t6
+add-t7 : tie.Need-add-t7
 unfolding full
-add-t6 c = let room : c .before .before .before .args .state .curves < 16 = leb-false _ _ (rw (c .before .enum-told2 .given .1) at (c .before .before .before .pre)) in omega arith
+add-t7 c = let room : c .before .before .before .before .args .state .curves < 16 = leb-false _ _ (rw (c .before .enum-told2 .given .1) at (c .before .before .before .before .pre)) in omega arith
 
 enum-told-3 : tie.Need-enum-told-3
 enum-told-3 c = search needs
 
-add-t7 : tie.Need-add-t7
+add-t8 : tie.Need-add-t8
 unfolding full
-add-t7 c = let room : c .before .before .before .args .state .claims < 256 = leb-false _ _ (rw (c .before .enum-told3 .given .1) at (c .before .before .before .pre)) in omega arith
+add-t8 c = let room : c .before .before .before .before .args .state .claims < 256 = leb-false _ _ (rw (c .before .enum-told3 .given .1) at (c .before .before .before .before .pre)) in omega arith
 
 enum-told-4 : tie.Need-enum-told-4
 enum-told-4 c = search needs
 
 returns : tie.Need-returns
 unfolding after
-returns c = rw (c .enum-told .given .1)
+returns c = rw (c .before .enum-told .given .1, c .number1 .ensures)
 
 returns-2 : tie.Need-returns-2
 unfolding after
@@ -47,10 +50,11 @@ after-spec =
     tie.close
     (tie.spec
     enum-told
+    number1-requires
     enum-told-2
-    add-t6
-    enum-told-3
     add-t7
+    enum-told-3
+    add-t8
     enum-told-4
     returns
     returns-2

@@ -1,8 +1,10 @@
 use mathlib.Core.Path.{refl, ap₂, _∙_}
 use native.Mathlib.Omega.{arith}
 use Rattle.minplus.specs.Horizon.{crossing, highest, lowest, minimumN}
-use Rattle.curve.specs.Held.{curveOf}
-use Rattle.horizon.specs.Reach.{crossingN}
+use denote.Ref.{now}
+use Rattle.curve.specs.Steps.{curveFrom}
+use Rattle.curve.specs.Held.{heldAs}
+use Rattle.horizon.specs.Reach.{crossingN, limited, small-more}
 use borrow.Author.Needs.{needs}
 use Rattle.horizon.proofs.crossing.crossing_n.Statement.{statement}
 use Rattle.horizon.proofs.crossing.crossing_n.Tie as tie
@@ -20,7 +22,15 @@ turning-requires-2 : tie.Need-turning-requires-2
 turning-requires-2 c κs = search needs
 
 crossing-requires : tie.Need-crossing-requires
-crossing-requires c κs = search needs
+crossing-requires c κs =
+    let pre = c .before .before .before .before .before .before .pre in
+    record {
+      left = limited (pre .left);
+      right = limited (pre .right);
+      slower = pre .slower;
+      a-small = small-more (c .before .turning .ensures .1);
+      b-small = small-more (c .turning2 .ensures .1);
+    }
 
 enum-told-3 : tie.Need-enum-told-3
 enum-told-3 c = search needs
@@ -33,11 +43,11 @@ unfolding crossingN
 returns c = rw (c .enum-told .given .1) (refl, omega arith)
 
 returns-2 : tie.Need-returns-2
-unfolding crossingN minimumN highest lowest
+unfolding crossingN minimumN crossing highest lowest
 returns-2 c =
-    let a = c .before .before .before .before .before .args in
+    let a = c .before .before .before .before .before .before .before .args in
     rw (c .before .before .before .enum-told2 .given .1) (
-      c .crossing .ensures .0 ∙ ap₂ (crossing (curveOf (a .f)) (curveOf (a .g))) (c .before .before .turning .ensures .0) (c .before .turning2 .ensures .0),
+      c .crossing .ensures .0 ∙ ap₂ (crossing (curveFrom (heldAs (a .f) (now (a .left)))) (curveFrom (heldAs (a .g) (now (a .right))))) (c .before .before .turning .ensures .0) (c .before .turning2 .ensures .0),
       c .crossing .ensures .1,
     )
 

@@ -9,7 +9,7 @@ use Rattle.minplus.specs.Horizon.{extremeOf, raisedAt}
 use Rattle.curve.specs.declared.walks.Walk.{Walk}
 use Rattle.curve.specs.Steps.{Steps, curveFrom}
 use Rattle.curve.specs.Held.{heldAs}
-use Rattle.curve.specs.Walks.{nextWalk, walkAt, walk-begins, walk-goes-on}
+use Rattle.curve.specs.Walks.{nextWalk, walkAt, walk-able, walk-begins, walk-goes-on}
 use Rattle.horizon.specs.Reach.{choice, choice-fits, raisable, large}
 use Rattle.horizon.proofs.crossing.extreme.Statement.{statement}
 use Rattle.horizon.proofs.crossing.extreme.Tie as tie
@@ -32,7 +32,7 @@ begins : (c : tie.After-at Inv-loop μ-loop)
 begins c =
     let a = c .before .before .args in
     let pre = c .before .before .pre in
-    c .at .ensures ∙ walk-begins (heldAs (a .form) (now (a .rises))) (pre .well-formed) (a .start .0) (omega (arith, pre .room))
+    c .at .ensures ∙ walk-begins (heldAs (a .form) (now (a .rises))) (pre .lent .well) (a .start .0) (omega (arith, pre .room))
 
 raised-requires : tie.Need-raised-requires Inv-loop μ-loop
 raised-requires c κs =
@@ -61,7 +61,11 @@ loop-holds c =
     )
 
 next-requires : tie.Need-next-requires Inv-loop μ-loop
-next-requires c κs = tt
+next-requires c κs =
+    let a = c .before .before .before .before .before .before .args in
+    let pre = c .before .before .before .before .before .before .pre in
+    let t = c .before .loop in
+    rw (t .inv .1 .1 .0) (walk-able (pre .lent) (a .start .0 + (t .i - 1)) (omega (arith, pre .room)))
 
 sub-raised : tie.Need-sub-raised Inv-loop μ-loop
 sub-raised c = omega arith
@@ -76,7 +80,7 @@ goes-on c =
     let s : Steps = heldAs (a .form) (now (a .rises)) in
     let on : suc (a .start .0 + (t .i - 1)) ≡ a .start .0 + t .i = omega arith in
     c .next .ensures ∙ ap (nextWalk (heldAs (a .form) (now (a .rises)))) (t .inv .1 .1 .0)
-    ∙ walk-goes-on s (pre .well-formed) (a .start .0 + (t .i - 1)) (omega (arith, pre .room)) ∙ ap (walkAt s) on
+    ∙ walk-goes-on s (pre .lent .well) (a .start .0 + (t .i - 1)) (omega (arith, pre .room)) ∙ ap (walkAt s) on
 
 raised-requires-2 : tie.Need-raised-requires-2 Inv-loop μ-loop
 raised-requires-2 c κs =

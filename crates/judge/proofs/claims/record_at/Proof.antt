@@ -1,17 +1,12 @@
-use Prim.Native.Nat.{ℕ}
-use mathlib.Core.Path.{_≡_, sym, ap, subst, _∙_}
-use mathlib.Core.List.{List}
+use mathlib.Core.Path.{_≡_, sym, ap, _∙_}
 use denote.Ref.{now}
-use Rattle.minplus.specs.Claim.{WellFormedClaim}
-use Rattle.minplus.specs.Verdict.{recordOf, verdict}
-use Rattle.curve.specs.Claimed.{claimOf}
+use borrow.Author.Needs.{needs}
+use Rattle.minplus.specs.Verdict.{recordOf}
 use Rattle.content.specs.declared.Stated.{Stated}
 use Rattle.content.specs.declared.ClaimField.the-variants as claim-field
-use Rattle.field.specs.Fields.{contentAt}
 use Rattle.content.specs.Refusals.{claimField}
-use Rattle.judge.specs.Claims.{claimOn, verdictFor, verdictIn}
-use Rattle.judge.specs.Held.{ClaimTold, claim-told, claim-held, verdict-given}
-use borrow.Author.Needs.{needs}
+use Rattle.field.specs.Fields.{contentAt}
+use Rattle.judge.specs.Kept.{ClaimReady, verdictKept}
 use Rattle.judge.proofs.claims.record_at.Statement.{statement}
 use Rattle.judge.proofs.claims.record_at.Tie as tie
 
@@ -28,65 +23,58 @@ record-of-requires : tie.Need-record-of-requires
 record-of-requires c κs = search needs
 
 returns : tie.Need-returns
-unfolding verdictIn
+unfolding verdictKept
 returns c =
-    let args = c .before .before .before .before .before .args in
+    let a = c .before .before .before .before .before .before .before .before .args in
     let refused = sym (c .before .before .before .claim-at .ensures) ∙ c .before .enum-told .given .1 in
-    c .record-of .ensures ∙ ap recordOf (sym (ap (verdictFor (now (args .book)) (args .places .curves)) refused))
+    c .record-of .ensures ∙ ap recordOf (sym (ap (verdictKept (now (a .forms)) (now (a .rises))) refused))
 
 -- where the field is read
 abbrev stated : tie.After-known-told → Stated
 stated c = c .before .stated .given .0 .0
 
-abbrev book : tie.After-known-told → List ℕ
-book c = now (c .before .before .before .before .before .args .book)
-
-abbrev places : tie.After-known-told → List ℕ
-places c = c .before .before .before .before .before .args .places .curves
-
-so : (c : tie.After-known-told) → claimField (c .before .before .before .before .before .args .curves) (contentAt (book c) (c .before .before .before .before .before .args .place)) ≡ claim-field.Stated (stated c)
+so : (c : tie.After-known-told) → let a = c .before .before .before .before .before .before .before .before .args in claimField (a .curves) (contentAt (now (a .book)) (a .place)) ≡ claim-field.Stated (stated c)
 so c = sym (c .before .before .before .claim-at .ensures) ∙ c .before .stated .given .1
 
-known : (c : tie.After-known-told) → ClaimTold (book c) (places c) (stated c)
-known c = claim-told (c .before .before .before .before .before .pre) (stated c) (so c)
+ready : (c : tie.After-known-told) → let a = c .before .before .before .before .before .before .before .before .args in ClaimReady (now (a .forms)) (now (a .rises)) (claimField (a .curves) (contentAt (now (a .book)) (a .place)))
+ready c = c .before .before .before .before .before .before .before .before .pre .0
 
-curve-named-requires : tie.Need-curve-named-requires
-curve-named-requires c κs = known c .left-named
+form-at-requires : tie.Need-form-at-requires
+form-at-requires c κs = let t = c in (ready t .left-named (stated t) (so t), t .before .before .before .before .before .before .before .before .pre .1)
 
-curve-named-requires-2 : tie.Need-curve-named-requires-2
-curve-named-requires-2 c κs = known (c .before) .right-named
+form-at-requires-2 : tie.Need-form-at-requires-2
+form-at-requires-2 c κs = let t = c .before in (ready t .right-named (stated t) (so t), t .before .before .before .before .before .before .before .before .pre .1)
 
-curve-named-requires-3 : tie.Need-curve-named-requires-3
-curve-named-requires-3 c κs = known (c .before .before) .claimed-named
+form-at-requires-3 : tie.Need-form-at-requires-3
+form-at-requires-3 c κs = let t = c .before .before in (ready t .claimed-named (stated t) (so t), t .before .before .before .before .before .before .before .before .pre .1)
 
--- the claim over the curves as they are read
-claim-is : (c : tie.After-curve-named3) → claimOf (stated (c .before .before .before) .claim) (c .before .before .curve-named .result) (c .before .curve-named2 .result) (c .curve-named3 .result)
-    ≡ claimOn (book (c .before .before .before)) (places (c .before .before .before)) (stated (c .before .before .before))
-claim-is c =
-    let k = known (c .before .before .before) in
-    claim-held (stated (c .before .before .before) .claim) _ _ _ (c .before .before .curve-named .ensures) (c .before .curve-named2 .ensures) (c .curve-named3 .ensures)
-    (k .left-well) (k .right-well) (k .claimed-well)
+rises-at-requires : tie.Need-rises-at-requires
+rises-at-requires c κs = let t = c .before .before .before in (ready t .left-named (stated t) (so t), t .before .before .before .before .before .before .before .before .pre .2)
 
-verdict-on-requires : tie.Need-verdict-on-requires
-verdict-on-requires c κs = search needs
+rises-at-requires-2 : tie.Need-rises-at-requires-2
+rises-at-requires-2 c κs = let t = c .before .before .before .before in (ready t .right-named (stated t) (so t), t .before .before .before .before .before .before .before .before .pre .2)
 
-verdict-given-requires : tie.Need-verdict-given-requires
-verdict-given-requires c κs = search needs
+rises-at-requires-3 : tie.Need-rises-at-requires-3
+rises-at-requires-3 c κs = let t = c .before .before .before .before .before in (ready t .claimed-named (stated t) (so t), t .before .before .before .before .before .before .before .before .pre .2)
 
--- and it is well formed
-well : (c : tie.After-curve-named3) → WellFormedClaim (claimOf (stated (c .before .before .before) .claim) (c .before .before .curve-named .result) (c .before .curve-named2 .result) (c .curve-named3 .result))
-well c = subst WellFormedClaim (sym (claim-is c)) (known (c .before .before .before) .claim-well)
+verdict-over-requires : tie.Need-verdict-over-requires
+verdict-over-requires c κs =
+    let t = c .before .before .before .before .before .before .before in
+    rw (c .before .before .before .before .before .before .form-at .ensures, c .before .before .before .before .before .form-at2 .ensures, c .before .before .before .before .form-at3 .ensures, c .before .before .before .rises-at .ensures, c .before .before .rises-at2 .ensures, c .before .rises-at3 .ensures) (ready t .lent (stated t) (so t), t .before .before .before .before .before .before .before .before .pre .3)
 
 record-of-requires-2 : tie.Need-record-of-requires-2
 record-of-requires-2 c κs = search needs
 
+same-length : tie.Need-same-length
+same-length c = search needs
+
 returns-2 : tie.Need-returns-2
-unfolding verdictIn
+unfolding verdictKept
 returns-2 c =
-    let at = c .before .before .before in
-    let judged = c .before .before .verdict-on in
-    c .record-of2 .ensures ∙ ap recordOf (c .before .verdict-given .ensures ∙ verdict-given (judged .result) _ (well at) (judged .ensures) ∙ ap verdict (claim-is at)
-    ∙ sym (ap (verdictFor (book (at .before .before .before)) (places (at .before .before .before))) (so (at .before .before .before))))
+    let t = c .before .before .before .before .before .before .before .before .before .before .before in
+    let a = t .before .before .before .before .before .before .before .before .args in
+    let given = rw (c .before .before .before .before .before .before .before .before .before .before .form-at .ensures, c .before .before .before .before .before .before .before .before .before .form-at2 .ensures, c .before .before .before .before .before .before .before .before .form-at3 .ensures, c .before .before .before .before .before .before .before .rises-at .ensures, c .before .before .before .before .before .before .rises-at2 .ensures, c .before .before .before .before .before .rises-at3 .ensures) at (c .before .before .before .verdict-over .ensures) in
+    c .record-of2 .ensures ∙ ap recordOf (given ∙ sym (ap (verdictKept (now (a .forms)) (now (a .rises))) (so t)))
 
 pub record-at-spec : {M : Type 1} → statement M
 record-at-spec =
@@ -97,10 +85,13 @@ record-at-spec =
     enum-told
     record-of-requires
     returns
-    curve-named-requires
-    curve-named-requires-2
-    curve-named-requires-3
-    verdict-on-requires
-    verdict-given-requires
+    form-at-requires
+    form-at-requires-2
+    form-at-requires-3
+    rises-at-requires
+    rises-at-requires-2
+    rises-at-requires-3
+    verdict-over-requires
     record-of-requires-2
+    same-length
     returns-2)
