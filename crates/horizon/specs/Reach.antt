@@ -12,8 +12,8 @@
 --     rank-is                   R is the greater of the two
 --     even-numbers, horizon-numbers     the first asks a curve's numbers alone, and so does the horizon of the claimed
 --                                       one
---     horizonAnswer             the answer: no horizon for a claim that is not well formed (horizon-none, ill-formed),
---                               else its horizon (horizon-at, at-horizon)
+--     horizonAnswer             the answer: no horizon for a claim that is not well formed (horizon-none), else its
+--                               horizon (horizon-at)
 use Prim.Native.Nat.{ℕ, suc, _+_, _-_, _*_, _≤_, _<_, min, max}
 use mathlib.Core.Path.{_≡_, refl, sym, ap}
 use mathlib.Core.Bool.{Bool, true, false}
@@ -221,7 +221,7 @@ horizon-numbers (Equals o) f g h l = refl
 horizon-numbers (AtMost x) f g h l = refl
 horizon-numbers (Exactly x) f g h l = refl
 
--- the answer from what holds, and what holds from the answer
+-- the answer from what holds
 module _ (c : M.Claim) where
   pub horizon-none : M.wellFormedClaim c ≡ false → horizonAnswer c ≡ IllFormed
   unfolding horizonAnswer
@@ -230,17 +230,3 @@ module _ (c : M.Claim) where
   pub horizon-at : M.wellFormedClaim c ≡ true → horizonAnswer c ≡ At (H.horizon c)
   unfolding horizonAnswer
   horizon-at e = rw (e, horizonAnswer)
-
-  pub ill-formed : horizonAnswer c ≡ IllFormed → M.wellFormedClaim c ≡ false
-  ill-formed e = go (M.wellFormedClaim c) refl
-    where
-      go : (b : Bool) → M.wellFormedClaim c ≡ b → b ≡ false
-      go false is = refl
-      go true is = let z : _≡_ {A = ℕ} 0 1 = cc (horizon-at is) in absurd (omega arith)
-
-  pub at-horizon : (n : ℕ) → horizonAnswer c ≡ At n → (M.wellFormedClaim c ≡ true) × (H.horizon c ≡ n)
-  at-horizon n e = go (M.wellFormedClaim c) refl
-    where
-      go : (b : Bool) → M.wellFormedClaim c ≡ b → (b ≡ true) × (H.horizon c ≡ n)
-      go true is = (refl, cc (horizon-at is))
-      go false is = let z : _≡_ {A = ℕ} 0 1 = cc (horizon-none is) in absurd (omega arith)

@@ -8,21 +8,19 @@ use mathlib.Core.Path.{_≡_, refl, sym, ap, ap₂, _∙_}
 use mathlib.Core.List.{List}
 use mathlib.Core.Bool.{not}
 use native.Mathlib.Omega.{arith}
-use lib.ListN.{length, getD, drop}
+use lib.ListN.{length, getD, take, drop}
 use lib.Dec.{eqb}
 use lib.Seq.{getD-drop}
 use Rattle.minplus.specs.Search.{best-same}
 use Rattle.minplus.specs.Conv.{conv}
 use Rattle.minplus.specs.Curve.{Curve, listedAt, value, value-at-most, value-gains, value-only}
 use Rattle.minplus.specs.Claim.{convolution, due, equals}
-use Rattle.minplus.specs.Horizon.{maxHorizon}
 use Rattle.minplus.specs.Verdict.{breaks, leftAt, rightAt}
 use Rattle.curve.specs.Steps.{Steps, Lent, curveFrom, stepCount, stepped}
-use Rattle.curve.specs.Stepped.{stepped-value}
-use Rattle.curve.specs.Table.{cell}
+use Rattle.curve.specs.Table.{table-at}
 use Rattle.search.specs.Found.{found-same}
 use Rattle.search.specs.Break.{Searched, firstOf}
-use Rattle.splits.specs.Parts.{rightPart, workRoom, listedOver, listed-length, listed-before, listed-inside}
+use Rattle.splits.specs.Parts.{rightPart, workRoom, listedOver, part-length, listed-length, listed-before, listed-inside}
 use Rattle.splits.specs.Splits.{Foldable, leftCurve, rightCurve, settledOf}
 
 -- f's values up to the settled tick
@@ -33,10 +31,6 @@ abbrev pub workOf : Steps → Steps → List ℕ → List ℕ
 workOf f g s = listedOver (stepped g) rightPart (stepCount g) (frontOf f g s)
 
 -- ---- laws
-
--- up to tick 4,096 a value fits 32 bits
-cell-value : (s : Steps) → Lent s → (n : ℕ) → n ≤ maxHorizon → cell (stepped s) n ≡ value (curveFrom s) n
-cell-value s lent n le = omega (arith, stepped-value s (lent .well) n, value-at-most (curveFrom s) (lent .well) n)
 
 conv-same : (f g f′ g′ : ℕ → ℕ) → ((n : ℕ) → f n ≡ f′ n) → ((n : ℕ) → g n ≡ g′ n) → (n : ℕ) → conv f g n ≡ conv f′ g′ n
 unfolding conv
@@ -52,8 +46,11 @@ module _ {f g h : Steps} {tried : ℕ} (a : Searched f g h tried) (s : List ℕ)
   few : settledOf (curveFrom f) (curveFrom g) ≤ 511
   few = omega (arith, a .left .well .count-fits, a .right .well .count-fits)
 
+  front : 0 + settledOf (curveFrom f) (curveFrom g) ≤ length s
+  front = omega (arith, few, room)
+
   front-long : length (frontOf f g s) ≡ length s
-  front-long = listed-length (stepped f) 0 (settledOf (curveFrom f) (curveFrom g)) s (omega (arith, few, room))
+  front-long = listed-length (stepped f) 0 (settledOf (curveFrom f) (curveFrom g)) s front
 
   fits : rightPart + stepCount g ≤ length (frontOf f g s)
   fits = omega (arith, front-long, room, a .right .well .count-fits)
@@ -63,13 +60,15 @@ module _ {f g h : Steps} {tried : ℕ} (a : Searched f g h tried) (s : List ℕ)
       let at : 0 + n ≡ n = omega arith in
       listed-before (stepped g) rightPart (stepCount g) (frontOf f g s) fits n (omega (arith, few, lt))
       ∙ ap (λ (m : ℕ). getD (frontOf f g s) m 0) (sym at)
-      ∙ listed-inside (stepped f) 0 (settledOf (curveFrom f) (curveFrom g)) s (omega (arith, few, room)) (omega (arith, few)) n lt
-      ∙ cell-value f (a .left) n (omega (arith, few, lt))
+      ∙ listed-inside (stepped f) 0 (settledOf (curveFrom f) (curveFrom g)) s front n lt
+      ∙ table-at f (a .left .well) (take (settledOf (curveFrom f) (curveFrom g)) s) n
+      (omega (arith, part-length (stepped f) 0 (settledOf (curveFrom f) (curveFrom g)) s front, lt)) (omega (arith, few, lt))
 
   right-at : (v : ℕ) → v < stepCount g → getD (workOf f g s) (rightPart + v) 0 ≡ value (curveFrom g) v
   right-at v lt =
-      listed-inside (stepped g) rightPart (stepCount g) (frontOf f g s) fits (omega (arith, a .right .well .count-fits)) v lt
-      ∙ cell-value g (a .right) v (omega (arith, a .right .well .count-fits, lt))
+      listed-inside (stepped g) rightPart (stepCount g) (frontOf f g s) fits v lt
+      ∙ table-at g (a .right .well) (take (stepCount g) (drop rightPart (frontOf f g s))) v
+      (omega (arith, part-length (stepped g) rightPart (stepCount g) (frontOf f g s) fits, lt)) (omega (arith, a .right .well .count-fits, lt))
 
   left-same : (n : ℕ) → value F n ≡ value (curveFrom f) n
   unfolding F

@@ -1,8 +1,8 @@
 -- The parts of the numbers that the search of kind 3 is lent, and what stands in them at a tick.
 --
 --     rightPart, nearPart, lastPart, carriedPart, workRoom     where the parts begin, and how many numbers there are
---     listedOver              so many of a function's values in a part of a list: listed-length, listed-before,
---                             listed-inside
+--     listedOver              so many of a function's values in a part of a list (part-length): listed-length,
+--                             listed-before, listed-inside
 --     nearBy, lastBy, carriedBy     the least over the splits with v < T', over those with T' <= v < T'+d', and over
 --                             all from T' on
 --     Carries, carriedIn      one number of the last part from the others, and what it asks
@@ -20,9 +20,7 @@ use lib.ListN.{length, getD, set, take, drop, length-set, length-append, length-
 use lib.Seq.{getD-set-same, getD-set-other, getD-append-add, getD-take, length-take-le}
 use borrow.Author.Count.{below-more}
 use Rattle.minplus.specs.Folded.{leastFrom, carried}
-use Rattle.minplus.specs.Horizon.{maxHorizon}
-use Rattle.curve.specs.Filled.{over-at}
-use Rattle.curve.specs.Table.{cell, tableOver, table-length}
+use Rattle.curve.specs.Table.{tableOver, table-length}
 
 abbrev pub rightPart : ℕ
 rightPart = 512
@@ -72,7 +70,7 @@ module _ (F : ℕ → ℕ) (from count : ℕ) (s : List ℕ) (fits : from + coun
   front-length : length (take from s) ≡ from
   front-length = length-take-le from s (omega (arith, fits))
 
-  part-length : length (take count (drop from s)) ≡ count
+  pub part-length : length (take count (drop from s)) ≡ count
   part-length = length-take-le count (drop from s) (omega (arith, fits, length-drop from s))
 
   pub listed-length : length (listedOver F from count s) ≡ length s
@@ -97,14 +95,13 @@ module _ (F : ℕ → ℕ) (from count : ℕ) (s : List ℕ) (fits : from + coun
   unfolding listedOver
   listed-before k lt = List·getD-append (take from s) _ 0 k (omega (arith, front-length, lt)) ∙ getD-take from s k 0 lt
 
-  pub listed-inside : count ≤ workRoom → (n : ℕ) → n < count → getD (listedOver F from count s) (from + n) 0 ≡ cell F n
-  unfolding listedOver tableOver
-  listed-inside few n lt =
+  pub listed-inside : (n : ℕ) → n < count → getD (listedOver F from count s) (from + n) 0 ≡ getD (tableOver F (take count (drop from s))) n 0
+  unfolding listedOver
+  listed-inside n lt =
       let at : length (take from s) + n ≡ from + n = omega (arith, front-length) in
       ap (λ (m : ℕ). getD (take from s ++ (tableOver F (take count (drop from s)) ++ drop count (drop from s))) m 0) (sym at)
       ∙ getD-append-add (take from s) (tableOver F (take count (drop from s)) ++ drop count (drop from s)) n 0
       ∙ List·getD-append (tableOver F (take count (drop from s))) (drop count (drop from s)) 0 n (omega (arith, table-length F (take count (drop from s)), part-length, lt))
-      ∙ over-at (cell F) (min (length (take count (drop from s))) (maxHorizon + 1)) (take count (drop from s)) n (omega (arith, part-length, lt, few))
 
 -- ---- what stands in the numbers
 
