@@ -3,6 +3,7 @@
 //! worst        accepted convolutions with a horizon of exactly 4,096, of steep curves
 //! splits       the same, of curves that list 256 values: the most splits for a judge that tries
 //!              only those which it needs
+//! itself       the same, of such a curve with itself: left and right are one number
 //! growth_H     the same with the horizon H, which is 256, 512, 1024, 2048 or 4096
 //! full_sum     accepted sums of curves that list 256 values, with a horizon of exactly 4,096
 //! full_delay   accepted delay bounds with a horizon of exactly 4,095
@@ -12,8 +13,9 @@
 
 use crate::book::{Book, Curve, MOST_CLAIMS, MOST_CURVES, MOST_LISTED, MOST_X};
 use crate::dice::Dice;
+use crate::itself::straight;
 use crate::law::{horizon, verdict, Verdict, MOST_HORIZON};
-use crate::make::{due_table, form, line, mended, one_claim, repeats, sound, steep_triple};
+use crate::make::{bumpy, due_table, form, mended, one_claim, repeats, sound, steep_triple, PACE};
 
 const KINDS: [&str; 7] = [
     "sum",
@@ -30,6 +32,7 @@ pub fn bench(name: &str) -> Option<Vec<u8>> {
     let book = match name {
         "worst" => worst(),
         "splits" => splits(MOST_HORIZON)?,
+        "itself" => itself(),
         "full_sum" => full_sum(),
         "full_delay" => full_delay(),
         "largest" => largest(),
@@ -82,6 +85,17 @@ fn splits(ticks: i64) -> Option<Book> {
     Some(accepted(book, ticks))
 }
 
+/// The slowest found, with T = 32 and period 17 for h. Eight curves, each with itself.
+fn itself() -> Book {
+    let [f, h] = straight(&mut Dice::new(3, 0), 32, 17);
+    let mut book = Book::default();
+    for k in 0..8 {
+        let (left, third) = (book.add(raised(&f, k)), book.add(raised(&h, 2 * k)));
+        book.claim(3, left, left, third.into());
+    }
+    accepted(book, MOST_HORIZON)
+}
+
 /// From the ranks on the bumps repeat with period 8, as the claimed curve does; D is 3,968.
 fn full_sum() -> Book {
     let mut dice = Dice::new(1, 0);
@@ -110,17 +124,6 @@ fn full_delay() -> Book {
         book.claim(4, left as u8, right as u8, 4 + k % 3);
     }
     accepted(book, 4_095)
-}
-
-const PACE: i64 = 3;
-
-/// Straight but for bumps of at most the pace, so that no value falls.
-fn bumpy(t: i64, d: i64, mut bump: impl FnMut(i64) -> i64) -> Curve {
-    let mut curve = line(t, d, PACE, 0);
-    for (n, value) in curve.values.iter_mut().enumerate() {
-        *value += bump(n as i64);
-    }
-    curve
 }
 
 fn raised(f: &Curve, by: i64) -> Curve {

@@ -6,6 +6,7 @@
 
 use crate::book::{read, Book};
 use crate::dice::Dice;
+use crate::itself::itself_book;
 use crate::judge::{MOST_TICK, RECORD};
 use crate::make::{crossing_book, full_of, large_book, many_claims};
 use crate::make::{ranks_book, small_book, sound, steep_book, unjudged_book};
@@ -68,6 +69,7 @@ impl Lent {
 /// another length, so a book of up to 149 bytes is torn at every length.
 const TORN: u64 = 10;
 const LENGTHS: u64 = 150;
+const ITSELF: u64 = 10;
 const SHARED: u64 = 30;
 const SEAM: u64 = 20;
 const FAR: u64 = 250;
@@ -84,6 +86,10 @@ pub fn case(seed: u64, index: u64) -> Case {
         let book = torn(seed, index / TORN);
         let ask = ask(&mut dice, &book);
         return Case::of("torn", book, ask);
+    }
+    if index % ITSELF == 6 {
+        let book = itself_book(&mut dice, index / ITSELF);
+        return judged(&mut dice, "a curve with itself", &book);
     }
     if index % SHARED == 4 {
         let book = shared_book(&mut dice, index / SHARED);

@@ -3,9 +3,10 @@
 //! check    reads one answer for each case; the first difference ends the run
 //! Seen     counts of refusals by reason, verdicts by kind and code, buffers by length, and more
 
-use crate::book::{read, Refusal, MOST_CLAIMS, REASONS, SEAM};
+use crate::book::{read, Book, Refusal, MOST_CLAIMS, REASONS, SEAM};
 use crate::cases::{case, Ask, Case, Lent, CODES, FAR_BITS, SHARING};
 use crate::header::{record, take_record, take_said, Parts};
+use crate::itself::Mirrored;
 use crate::judge::{answer, ask_value, decide, refusal_number, room_enough, Totals, RECORD};
 use crate::law::{horizon, pace, Verdict};
 use crate::seam::{falls_there, held_at, told_apart, READINGS};
@@ -36,6 +37,7 @@ struct Seen {
     full: [u64; 3],
     /// Kind, horizon, and f's rate against g's, of the claims whose periods share divisors.
     sharing: BTreeSet<(u8, i64, Ordering)>,
+    mirrored: Mirrored,
     /// What was long, and the highest bit of its length.
     far: BTreeSet<(&'static str, u32)>,
     seams: Seams,
@@ -271,8 +273,10 @@ impl Seen {
             let counted = verdicts.iter().filter(|(_, v)| codes.contains(&v.code()));
             *full += u64::from(counted.count() == MOST_CLAIMS);
         }
+        let book = read(&case.book.bytes).expect("a book that was judged");
+        self.mirrored.see(&book, verdicts);
         if case.label == SHARING {
-            self.share(&case.book.bytes);
+            self.share(&book);
         }
     }
 
@@ -296,14 +300,13 @@ impl Seen {
         }
     }
 
-    fn share(&mut self, book: &[u8]) {
-        let book = read(book).expect("a book that was judged");
+    fn share(&mut self, book: &Book) {
         for claim in &book.claims {
             let (f, g) = (
                 &book.curves[claim.left as usize],
                 &book.curves[claim.right as usize],
             );
-            let reached = (claim.kind, horizon(&book, claim), pace(f, g));
+            let reached = (claim.kind, horizon(book, claim), pace(f, g));
             self.sharing.insert(reached);
         }
     }
@@ -347,6 +350,7 @@ impl Seen {
             }
         }
         missing.extend(self.missing_limits());
+        missing.extend(self.mirrored.missing());
         missing.extend(self.seams.missing(&[1, 3, 4, 6, 7, 8]));
         missing.extend(self.missing_values());
         missing
@@ -424,6 +428,7 @@ impl Seen {
              {SHARING}: {} kinds with horizons and rates\n",
             self.sharing.len()
         );
+        text += &self.mirrored.summary();
         text += &self.seams.summary();
         text + &self.value_summary()
     }

@@ -5,6 +5,7 @@
 //! judge.rs     the entries' answers                text.rs      the program's lines
 //! make.rs      sound books                         spoil.rs     spoiled ones
 //! shared.rs    periods that share divisors         seam.rs      curves at their seam
+//! itself.rs    convolutions of a curve with itself
 //! cases.rs     the cases and their form            check.rs     answers compared
 //! writer.rs    the writer's answers and state      calls.rs     sequences of its calls
 //! calls_check.rs   their answers compared, and every byte
@@ -22,6 +23,7 @@ mod check;
 mod dice;
 mod examples;
 mod header;
+mod itself;
 mod judge;
 mod law;
 mod make;
@@ -48,8 +50,8 @@ independent beyond SEED COUNT    tries COUNT claims of each kind far beyond the 
 independent examples DIR         writes the example books and their lines
 independent lines < BOOK         prints the lines due for a book
 independent shown < BOOK         prints the lines of the header's own example for a book
-independent bench NAME           writes a book to measure with: worst, splits, growth_256 and
-                                 so on, full_sum, full_delay, largest, sum, minimum,
+independent bench NAME           writes a book to measure with: worst, splits, itself, growth_256
+                                 and so on, full_sum, full_delay, largest, sum, minimum,
                                  convolution, delay, exact_delay, backlog, or exact_backlog
 ";
 

@@ -11,6 +11,7 @@
 //! ranks_book       a horizon of 4,096 or 4,097 by ranks, with different rates
 //! unjudged_book    a horizon above 4,096, cheap for any judge
 //! one_claim        a book of one small claim of a given kind
+//! bumpy            a line of pace 3 with given bumps
 //! steep_triple     f, g and their convolution, with T+T'+2*2,021 as the horizon
 //! cost             what a judge of a book adds or compares at most
 //! rise, mended     what a period's values gain; the curve with no smaller increment
@@ -310,7 +311,7 @@ fn stay(f: &mut Curve) {
     f.c = 0;
 }
 
-fn rising(dice: &mut Dice, count: i64, start: i64, steep: i64) -> Vec<i64> {
+pub fn rising(dice: &mut Dice, count: i64, start: i64, steep: i64) -> Vec<i64> {
     let mut now = start;
     let mut values = Vec::new();
     for _ in 0..count {
@@ -367,6 +368,17 @@ pub fn line(t: i64, d: i64, pace: i64, start: i64) -> Curve {
     let values = (0..t + d).map(|n| start + pace * n).collect();
     let c = pace * d;
     Curve { t, d, c, values }
+}
+
+pub const PACE: i64 = 3;
+
+/// Straight but for bumps of at most the pace, so that no value falls.
+pub fn bumpy(t: i64, d: i64, mut bump: impl FnMut(i64) -> i64) -> Curve {
+    let mut curve = line(t, d, PACE, 0);
+    for (n, value) in curve.values.iter_mut().enumerate() {
+        *value += bump(n as i64);
+    }
+    curve
 }
 
 /// Gives both the pace k/gcd(d,d') of the multiples that suit both periods: the least with which

@@ -41,6 +41,7 @@ pub(crate) fn record_at(
     let h = form_at(forms, claimed);
     let verdict = verdict_over(
         claim,
+        left == right,
         f,
         rises_at(rises, left),
         g,

@@ -11,16 +11,21 @@
 --                                 lesser of F(n) and of itself one period before with a, as a loop has it
 --     carried-most                it is at most F(n)
 --     Reached f g r               splits of n with v <= r(n) are enough; reached-all: so they are where r(n) = n
---     conv-folded                 from T on: the lesser of the least over v < T, and of the least over one period of g
---                                 carried on
---     conv-early                  below T the first of these is all
+--     conv-folded                 from the first tick K with v = T within r(K) on: the lesser of the least over v < T,
+--                                 and of the least over one period of g carried on
+--     conv-early                  before K the first of these is all
+--     reached-half, first-half    of a function with itself r(n) = n/2, rounded down, is enough, and 2*T is the first
+--                                 tick with v = T
+--     from-half, half-gains       there the least over half of the splits is that over all of them once the mirrors of
+--                                 these are splits from low on, so that it gains from T + low + k on as well
 use Prim.Native.Nat.{ℕ, zero, suc, _+_, _-_, _*_, _/_, _%_, _≤_, _<_, min}
-use mathlib.Core.Path.{_≡_, refl, ap, ap₂, _∙_, subst}
+use mathlib.Core.Path.{_≡_, refl, sym, ap, ap₂, _∙_, subst}
+use mathlib.Core.Logic.{_↔_}
 use native.Mathlib.Omega.{arith}
 use native.Mathlib.Nat.{le-antisymm, le-refl, mod-lt, mod-add-div', div-eq-of-lt, div-eq-sub-div, zero-div, le-div-iff-mul-le}
 use native.Mathlib.Decide.{decLe}
 use Rattle.minplus.specs.Search.{best, best-same, least, least-lower, least-attained}
-use Rattle.minplus.specs.Conv.{conv, conv-below, conv-attained}
+use Rattle.minplus.specs.Conv.{conv, conv-below, conv-attained, conv-half}
 use Rattle.minplus.specs.Gains.{Gains, gains-many}
 
 unfoldable pub leastFrom : (f g : ℕ → ℕ) (low k r n : ℕ) → ℕ
@@ -77,11 +82,11 @@ module _ (f g : ℕ → ℕ) (low k r n : ℕ) where
         ap g at,
       )
 
-  from-attained : r ≤ n → low ≤ n → (u : ℕ) × (v : ℕ) × (u + v ≡ n) × (low ≤ v) × (leastFrom f g low k r n ≡ f u + g v)
+  from-attained : r ≤ n → low ≤ n → (u : ℕ) × (v : ℕ) × (u + v ≡ n) × (low ≤ v) × (v ≤ low + k) × (leastFrom f g low k r n ≡ f u + g v)
   unfolding leastFrom
   from-attained inside le =
       let t = least-attained (λ i. f (n - (low + i)) + g (low + i)) (min (r - low) k) in
-      (n - (low + t .0), low + t .0, omega (arith, t .1), omega arith, t .2)
+      (n - (low + t .0), low + t .0, omega (arith, t .1), omega arith, omega (arith, t .1), t .2)
 
   pub from-most : leastFrom f g low k r n ≤ f (n - low) + g low
   unfolding leastFrom
@@ -174,23 +179,24 @@ module _ (F : ℕ → ℕ) (K P a n : ℕ) where
 
 -- ---- a convolution of few splits
 
-pub conv-early : {f g r : ℕ → ℕ} {T : ℕ} → Reached f g r → (n : ℕ) → n < T → conv f g n ≡ leastFrom f g 0 (T - 1) (r n) n
+-- where v = T is not within r
+pub conv-early : {f g r : ℕ → ℕ} {T : ℕ} → Reached f g r → (n : ℕ) → r n < T → conv f g n ≡ leastFrom f g 0 (T - 1) (r n) n
 conv-early {f} {g} {r} {T} R n lt = le-antisymm over under
   where
     over : conv f g n ≤ leastFrom f g 0 (T - 1) (r n) n
     over =
         let t = from-attained f g 0 (T - 1) (r n) n (R .inside n) (omega arith) in
-        omega (arith, conv-below f g n (t .0) (t .1) (t .2), t .4)
+        omega (arith, conv-below f g n (t .0) (t .1) (t .2), t .5)
 
     under : leastFrom f g 0 (T - 1) (r n) n ≤ conv f g n
     under =
         let t = R .attained n in
-        omega (arith, from-below f g 0 (T - 1) (r n) n (t .0) (t .1) (t .2) (omega arith) (omega (arith, t .2)) (t .3), t .4)
+        omega (arith, from-below f g 0 (T - 1) (r n) n (t .0) (t .1) (t .2) (omega arith) (omega (arith, t .3)) (t .3), t .4)
 
--- v = 0 is tried where T is 0, and v = T where r is below T: each is a split like any other
-pub conv-folded : {f g r : ℕ → ℕ} {T d c : ℕ} → Gains g T d c → 0 < d → Reached f g r → (n : ℕ) → T ≤ n
-    → conv f g n ≡ min (leastFrom f g 0 (T - 1) (r n) n) (carried (λ m. leastFrom f g T (d - 1) (r m) m) T d c n)
-conv-folded {f} {g} {r} {T} {d} {c} G positive R n le = le-antisymm over under
+-- v = 0 is tried where T is 0 too: it is a split like any other
+pub conv-folded : {f g r : ℕ → ℕ} {T d c K : ℕ} → Gains g T d c → 0 < d → Reached f g r → ((m : ℕ) → (K ≤ m) ↔ (T ≤ r m)) → (n : ℕ) → K ≤ n
+    → conv f g n ≡ min (leastFrom f g 0 (T - 1) (r n) n) (carried (λ m. leastFrom f g T (d - 1) (r m) m) K d c n)
+conv-folded {f} {g} {r} {T} {d} {c} {K} G positive R first n le = le-antisymm over under
   where
     soon : ℕ
     soon = leastFrom f g 0 (T - 1) (r n) n
@@ -199,25 +205,25 @@ conv-folded {f} {g} {r} {T} {d} {c} G positive R n le = le-antisymm over under
     period m = leastFrom f g T (d - 1) (r m) m
 
     -- what is tried is a split of n: one of m, with j periods more for g
-    over : conv f g n ≤ min soon (carried period T d c n)
+    over : conv f g n ≤ min soon (carried period K d c n)
     over =
         let s = from-attained f g 0 (T - 1) (r n) n (R .inside n) (omega arith) in
-        let w = carried-attained period T d c n positive le in
+        let w = carried-attained period K d c n positive le in
         let m = w .0 in
         let j = w .1 in
-        let x = from-attained f g T (d - 1) (r m) m (R .inside m) (w .3) in
+        let x = from-attained f g T (d - 1) (r m) m (R .inside m) (omega (arith, first m .0 (w .3), R .inside m)) in
         omega (
           arith,
           conv-below f g n (s .0) (s .1) (s .2),
-          s .4,
+          s .5,
           conv-below f g n (x .0) (x .1 + j * d) (omega (arith, x .2, w .2)),
           gains-many G j .gain (x .1) (x .3),
           w .4,
-          x .4,
+          x .5,
         )
 
     -- and a least split has its v below T, or j periods after one that is tried
-    under : min soon (carried period T d c n) ≤ conv f g n
+    under : min soon (carried period K d c n) ≤ conv f g n
     under =
         let t = R .attained n in
         let u = t .0 in
@@ -230,7 +236,7 @@ conv-folded {f} {g} {r} {T} {d} {c} G positive R n le = le-antisymm over under
               let within : w ≤ r (u + w) = R .smaller u v w (omega (arith, e)) (rw (t .2) (t .3)) in
               omega (
                 arith,
-                carried-below period T d c n positive (u + w) j (omega (arith, e, t .2)) (omega arith),
+                carried-below period K d c n positive (u + w) j (omega (arith, e, t .2)) (first (u + w) .1 (omega (arith, within))),
                 from-below f g T (d - 1) (r (u + w)) (u + w) u w refl (omega arith) (omega (arith, mod-lt (v - T) positive)) within,
                 gains-many G j .gain w (omega arith),
                 ap g e,
@@ -238,3 +244,47 @@ conv-folded {f} {g} {r} {T} {d} {c} G positive R n le = le-antisymm over under
               )
           | no early ↦ omega (arith, from-below f g 0 (T - 1) (r n) n u v (t .2) (omega arith) (omega (arith, early)) (t .3), t .4)
         ]
+
+-- ---- a function with itself
+
+pub reached-half : (f : ℕ → ℕ) → Reached f f (λ n. n / 2)
+reached-half f = record {
+  inside = λ n. omega arith;
+  attained = λ n.
+      let t = least-attained (λ u. f u + f (n - u)) (n / 2) in
+      (n - t .0, t .0, omega (arith, t .1), t .1, omega (arith, conv-half f n, t .2));
+  smaller = λ u v w le within. omega arith;
+}
+
+pub first-half : (T m : ℕ) → (2 * T ≤ m) ↔ (T ≤ m / 2)
+first-half T m = (λ le. omega arith, λ le. omega arith)
+
+-- of a split past the half the mirror is tried, if it is from low on
+pub from-half : (f : ℕ → ℕ) (low k n : ℕ) → low + (low + k) ≤ n → leastFrom f f low k (n / 2) n ≡ leastFrom f f low k n n
+from-half f low k n le = le-antisymm over under
+  where
+    over : leastFrom f f low k (n / 2) n ≤ leastFrom f f low k n n
+    over =
+        let t = from-attained f f low k n n (le-refl n) (omega arith) in
+        elim (decLe (t .1) (t .0)) [
+          | yes before ↦ omega (arith, from-below f f low k (n / 2) n (t .0) (t .1) (t .2) (t .3) (t .4) (omega (arith, t .2, before)), t .5)
+          | no past ↦
+              omega (
+                arith,
+                from-below f f low k (n / 2) n (t .1) (t .0) (omega (arith, t .2)) (omega (arith, t .2, t .4)) (omega (arith, t .4, past)) (omega (arith, t .2, past)),
+                t .5,
+              )
+        ]
+
+    under : leastFrom f f low k n n ≤ leastFrom f f low k (n / 2) n
+    under =
+        let t = from-attained f f low k (n / 2) n (omega arith) (omega arith) in
+        omega (arith, from-below f f low k n n (t .0) (t .1) (t .2) (t .3) (t .4) (omega (arith, t .2)), t .5)
+
+pub half-gains : {f : ℕ → ℕ} {T d c : ℕ} → Gains f T d c → (low k : ℕ) → low ≤ T → Gains (λ n. leastFrom f f low k (n / 2) n) (T + (low + k)) d c
+half-gains {f} {T} {d} {c} G low k soon = record {
+  gain = λ n le.
+      from-half f low k (n + d) (omega arith)
+      ∙ from-gains G f low k .gain n le
+      ∙ ap (λ (x : ℕ). x + c) (sym (from-half f low k n (omega arith)));
+}

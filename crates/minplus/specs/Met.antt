@@ -6,12 +6,14 @@
 --     outpaced-AB       and W12, which is refuted by rate, has the faster curve on its left
 --     crossed-AB        Slower, which the laws of N ask, can be met as well
 --     folded-AB         from tick 2 on the convolution of W4 needs three splits: v = 0 and 1, and v = 2, carried on
+--     folded-BB         B with itself has the split v = 2 from tick 4 on, as no split past the half is needed
 --     rising-B, waits-AB     B never falls, so the 3 of W8 is the longest wait; bounded-AB: and there had to be one
 --     vendor-claimed, vendor-waits     the vendor's curve, which falls: the table's exact delay of flat 10 on it is 19,
 --                                      and the longest wait is 1
 use Prim.Native.Nat.{ℕ, _+_, _-_, _*_, _/_, _%_, _≤_, _<_, min}
 use lib.Dec.{lit<, lit≤}
 use mathlib.Core.Path.{_≡_, refl, ap, _∙_}
+use mathlib.Core.Logic.{Iff·rfl}
 use native.Mathlib.Nat.{mod-lt, mod-add-div'}
 use native.Mathlib.Omega.{arith}
 use Rattle.minplus.specs.Claim.{Bound, Claim, Claimed, HorizontalDeviation, LeastWait, atMost, bounds, convolution, delay, due, equals, exactly}
@@ -19,7 +21,7 @@ use Rattle.minplus.specs.Conv.{conv}
 use Rattle.minplus.specs.Curve.{WellFormed, value, value-gains, value-repeats, well-formed, wellFormed}
 use Rattle.minplus.specs.Delay.{bounded-exactly, delay-means, gains-serve, least-wait}
 use Rattle.minplus.specs.Exact.{accepted-exactly, rate-exactly}
-use Rattle.minplus.specs.Folded.{carried, conv-folded, leastFrom, reached-all}
+use Rattle.minplus.specs.Folded.{carried, conv-folded, first-half, leastFrom, reached-all, reached-half}
 use Rattle.minplus.specs.Gains.{every-period}
 use Rattle.minplus.specs.Ground.{A, B, convAB, ten, vendor}
 use Rattle.minplus.specs.Horizon.{minimumN}
@@ -68,7 +70,12 @@ crossed-AB n le = crossed A B (well-formed-A .period-positive) (well-formed-B .p
 pub folded-AB : (n : ℕ) → 2 ≤ n
     → conv (value A) (value B) n ≡ min (leastFrom (value A) (value B) 0 1 n n) (carried (λ m. leastFrom (value A) (value B) 2 0 m m) 2 1 2 n)
 unfolding B
-folded-AB = conv-folded (value-gains B (well-formed-B .period-positive)) (well-formed-B .period-positive) (reached-all (value A) (value B))
+folded-AB = conv-folded (value-gains B (well-formed-B .period-positive)) (well-formed-B .period-positive) (reached-all (value A) (value B)) (λ m. Iff·rfl)
+
+pub folded-BB : (n : ℕ) → 4 ≤ n
+    → conv (value B) (value B) n ≡ min (leastFrom (value B) (value B) 0 1 (n / 2) n) (carried (λ m. leastFrom (value B) (value B) 2 0 (m / 2) m) 4 1 2 n)
+unfolding B
+folded-BB = conv-folded (value-gains B (well-formed-B .period-positive)) (well-formed-B .period-positive) (reached-half (value B)) (first-half 2)
 
 rising-B : NeverFalls (value B)
 rising-B = rising-exactly B (well-formed-B .period-positive) .0 (well-formed-B .rises)

@@ -6,7 +6,7 @@
 use Prim.Native.Nat.{ℕ, _+_, _-_, _*_, _≤_, _<_, min}
 use mathlib.Core.Path.{_≡_, refl, sym, ap, ap₂, _∙_}
 use mathlib.Core.List.{List}
-use mathlib.Core.Bool.{not}
+use mathlib.Core.Bool.{Bool, true, not}
 use native.Mathlib.Omega.{arith}
 use lib.ListN.{length, getD, take, drop}
 use lib.Dec.{eqb}
@@ -36,7 +36,7 @@ conv-same : (f g f′ g′ : ℕ → ℕ) → ((n : ℕ) → f n ≡ f′ n) →
 unfolding conv
 conv-same f g f′ g′ same same′ n = best-same min _ _ n (λ u le. ap₂ _+_ (same u) (same′ (n - u)))
 
-module _ {f g h : Steps} {tried : ℕ} (a : Searched f g h tried) (s : List ℕ) (room : workRoom ≤ length s) where
+module _ {itself : Bool} {f g h : Steps} {tried : ℕ} (a : Searched f g h tried) (told : itself ≡ true → f ≡ g) (s : List ℕ) (room : workRoom ≤ length s) where
   F : Curve
   F = leftCurve (f .rank) (f .period) (f .increment) (workOf f g s)
 
@@ -82,9 +82,13 @@ module _ {f g h : Steps} {tried : ℕ} (a : Searched f g h tried) (s : List ℕ)
       sym (value-only G (a .right .well .period-positive) (value (curveFrom g))
       (λ m lt. sym (getD-drop rightPart (workOf f g s) m 0 ∙ right-at m lt)) (value-gains (curveFrom g) (a .right .well .period-positive)) n)
 
-  pub apart-foldable : Foldable (leftCurve (f .rank) (f .period) (f .increment) (workOf f g s)) (rightCurve (g .rank) (g .period) (g .increment) (workOf f g s)) (workOf f g s) tried
+  pub apart-foldable : Foldable itself (leftCurve (f .rank) (f .period) (f .increment) (workOf f g s)) (rightCurve (g .rank) (g .period) (g .increment) (workOf f g s)) (workOf f g s) tried
   unfolding F G
   apart-foldable = record {
+    one-curve = λ e. record {
+      rank-same = ap (λ (x : Steps). x .rank) (sym (told e));
+      value-same = λ n. left-same n ∙ ap (λ (x : Steps). value (curveFrom x) n) (told e) ∙ sym (right-same n);
+    };
     left-period = a .left .well .period-positive;
     right-period = a .right .well .period-positive;
     left-count = a .left .well .count-fits;

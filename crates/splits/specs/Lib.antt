@@ -1,5 +1,6 @@
 -- The search of kind 3, in lent numbers.
 pub mod Parts
 pub mod Periods
+pub mod Reach
 pub mod Splits
 pub mod Apart

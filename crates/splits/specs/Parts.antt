@@ -3,11 +3,10 @@
 --     rightPart, nearPart, lastPart, carriedPart, workRoom     where the parts begin, and how many numbers there are
 --     listedOver              so many of a function's values in a part of a list (part-length): listed-length,
 --                             listed-before, listed-inside
---     nearBy, lastBy, carriedBy     the least over the splits with v < T', over those with T' <= v < T'+d', and over
---                             all from T' on
 --     Carries, carriedIn      one number of the last part from the others, and what it asks
---     Kept                    what stands in the numbers at a tick: kept-none, kept-near, kept-last, kept-skip,
---                             kept-early, kept-carried: as it begins, and after each store or where there is none
+--     Kept N L C t e          what stands in the numbers at a tick: values of N, and from the tick t on of L and, for
+--                             one round of e ticks, of C: kept-none, kept-near, kept-last, kept-skip, kept-early,
+--                             kept-carried: as it begins, and after each store or where there is none
 use Prim.Native.Nat.{ℕ, suc, _+_, _-_, _*_, _≤_, _<_, min}
 use mathlib.Core.Path.{_≡_, refl, sym, ap, _∙_}
 use mathlib.Core.Bool.{Bool, true, false}
@@ -19,7 +18,6 @@ use native.Mathlib.Nat.{mul-le-mul-right}
 use lib.ListN.{length, getD, set, take, drop, length-set, length-append, length-drop, List·getD-append}
 use lib.Seq.{getD-set-same, getD-set-other, getD-append-add, getD-take, length-take-le}
 use borrow.Author.Count.{below-more}
-use Rattle.minplus.specs.Folded.{leastFrom, carried}
 use Rattle.curve.specs.Table.{tableOver, table-length}
 
 abbrev pub rightPart : ℕ
@@ -42,16 +40,7 @@ unfoldable pub listedOver : (ℕ → ℕ) → (from count : ℕ) → List ℕ �
 unfolding tableOver
 listedOver F from count s = take from s ++ (tableOver F (take count (drop from s)) ++ drop count (drop from s))
 
-abbrev pub nearBy : (ℕ → ℕ) → (ℕ → ℕ) → ℕ → ℕ → ℕ
-nearBy f g t n = leastFrom f g 0 (t - 1) n n
-
-abbrev pub lastBy : (ℕ → ℕ) → (ℕ → ℕ) → ℕ → ℕ → ℕ → ℕ
-lastBy f g t e n = leastFrom f g t (e - 1) n n
-
-abbrev pub carriedBy : (ℕ → ℕ) → (ℕ → ℕ) → ℕ → ℕ → ℕ → ℕ → ℕ
-carriedBy f g t e a n = carried (lastBy f g t e) t e a n
-
--- what the lent numbers make of a tick from g's rank on
+-- what the lent numbers make of a tick that has splits from g's rank on
 unfoldable pub carriedIn : List ℕ → ℕ → ℕ → ℕ → ℕ → Bool → ℕ
 carriedIn work at added turn gain again =
     let last : ℕ = getD work (lastPart + at) 0 + added in
@@ -105,15 +94,15 @@ module _ (F : ℕ → ℕ) (from count : ℕ) (s : List ℕ) (fits : from + coun
 
 -- ---- what stands in the numbers
 
-pub record Kept (f g : ℕ → ℕ) (t e a : ℕ) (base work : List ℕ) (near last n : ℕ) : Type 0 where
+pub record Kept (N L C : ℕ → ℕ) (t e : ℕ) (base work : List ℕ) (near last n : ℕ) : Type 0 where
   pub same-length : length work ≡ length base
   pub listed : (k : ℕ) → k < nearPart → getD work k 0 ≡ getD base k 0
-  pub near-kept : (k : ℕ) → k < near → getD work (nearPart + k) 0 ≡ nearBy f g t k
-  pub last-kept : (k : ℕ) → t ≤ k → k < last → getD work (lastPart + k) 0 ≡ lastBy f g t e k
-  pub carried-kept : (j p : ℕ) → p < e → t + j * e + p < n → n ≤ t + j * e + p + e → getD work (carriedPart + p) 0 ≡ carriedBy f g t e a (t + j * e + p)
+  pub near-kept : (k : ℕ) → k < near → getD work (nearPart + k) 0 ≡ N k
+  pub last-kept : (k : ℕ) → t ≤ k → k < last → getD work (lastPart + k) 0 ≡ L k
+  pub carried-kept : (j p : ℕ) → p < e → t + j * e + p < n → n ≤ t + j * e + p + e → getD work (carriedPart + p) 0 ≡ C (t + j * e + p)
 
-pub kept-none : (f g : ℕ → ℕ) (t e a : ℕ) (base : List ℕ) → Kept f g t e a base base 0 0 0
-kept-none f g t e a base = record {
+pub kept-none : (N L C : ℕ → ℕ) (t e : ℕ) (base : List ℕ) → Kept N L C t e base base 0 0 0
+kept-none N L C t e base = record {
   same-length = refl;
   listed = λ k lt. refl;
   near-kept = λ k lt. absurd (omega (arith, lt));
@@ -147,35 +136,35 @@ same-or p q = elim (decLe p q) [
   | no gt ↦ inr (λ e. omega (arith, e, gt))
 ]
 
-module _ {f g : ℕ → ℕ} {t e a : ℕ} {base work : List ℕ} {near last n : ℕ} (kept : Kept f g t e a base work near last n) where
-  pub kept-near : {x : ℕ} → workRoom ≤ length base → near < 512 → x ≡ nearBy f g t near
-      → Kept f g t e a base (set work (nearPart + near) x) (near + 1) last n
+module _ {N L C : ℕ → ℕ} {t e : ℕ} {base work : List ℕ} {near last n : ℕ} (kept : Kept N L C t e base work near last n) where
+  pub kept-near : {x : ℕ} → workRoom ≤ length base → near < 512 → x ≡ N near
+      → Kept N L C t e base (set work (nearPart + near) x) (near + 1) last n
   kept-near {x} room lt is = record {
     same-length = length-set work (nearPart + near) x ∙ kept .same-length;
     listed = λ k less. getD-set-other work (nearPart + near) k x 0 (λ same. omega (arith, same, less)) ∙ kept .listed k less;
     near-kept =
-        below-more (λ k. getD (set work (nearPart + near) x) (nearPart + k) 0 ≡ nearBy f g t k) near
+        below-more (λ k. getD (set work (nearPart + near) x) (nearPart + k) 0 ≡ N k) near
         (λ k less. getD-set-other work (nearPart + near) (nearPart + k) x 0 (λ same. omega (arith, same, less)) ∙ kept .near-kept k less)
         (getD-set-same work (nearPart + near) x 0 (omega (arith, kept .same-length)) ∙ is);
     last-kept = λ k le less. getD-set-other work (nearPart + near) (lastPart + k) x 0 (λ same. omega (arith, same)) ∙ kept .last-kept k le less;
     carried-kept = λ j p inside less le. getD-set-other work (nearPart + near) (carriedPart + p) x 0 (λ same. omega (arith, same)) ∙ kept .carried-kept j p inside less le;
   }
 
-  pub kept-last : {x : ℕ} → workRoom ≤ length base → near ≤ 512 → last < 512 → x ≡ lastBy f g t e last
-      → Kept f g t e a base (set work (lastPart + last) x) near (last + 1) n
+  pub kept-last : {x : ℕ} → workRoom ≤ length base → near ≤ 512 → last < 512 → x ≡ L last
+      → Kept N L C t e base (set work (lastPart + last) x) near (last + 1) n
   kept-last {x} room few lt is = record {
     same-length = length-set work (lastPart + last) x ∙ kept .same-length;
     listed = λ k less. getD-set-other work (lastPart + last) k x 0 (λ same. omega (arith, same, less)) ∙ kept .listed k less;
     near-kept = λ k less. getD-set-other work (lastPart + last) (nearPart + k) x 0 (λ same. omega (arith, same, less)) ∙ kept .near-kept k less;
     last-kept = λ k le less.
-        below-more (λ k. t ≤ k → getD (set work (lastPart + last) x) (lastPart + k) 0 ≡ lastBy f g t e k) last
+        below-more (λ k. t ≤ k → getD (set work (lastPart + last) x) (lastPart + k) 0 ≡ L k) last
         (λ k less le. getD-set-other work (lastPart + last) (lastPart + k) x 0 (λ same. omega (arith, same, less)) ∙ kept .last-kept k le less)
         (λ le. getD-set-same work (lastPart + last) x 0 (omega (arith, kept .same-length)) ∙ is) k less le;
     carried-kept = λ j p inside less le. getD-set-other work (lastPart + last) (carriedPart + p) x 0 (λ same. omega (arith, same)) ∙ kept .carried-kept j p inside less le;
   }
 
-  -- a tick below g's rank has no last
-  pub kept-skip : last < t → Kept f g t e a base work near (last + 1) n
+  -- a tick before t has no last
+  pub kept-skip : last < t → Kept N L C t e base work near (last + 1) n
   kept-skip early = record {
     same-length = kept .same-length;
     listed = kept .listed;
@@ -184,7 +173,7 @@ module _ {f g : ℕ → ℕ} {t e a : ℕ} {base work : List ℕ} {near last n :
     carried-kept = kept .carried-kept;
   }
 
-  pub kept-early : n < t → Kept f g t e a base work near last (n + 1)
+  pub kept-early : n < t → Kept N L C t e base work near last (n + 1)
   kept-early early = record {
     same-length = kept .same-length;
     listed = kept .listed;
@@ -193,8 +182,8 @@ module _ {f g : ℕ → ℕ} {t e a : ℕ} {base work : List ℕ} {near last n :
     carried-kept = λ j p inside less le. absurd (omega (arith, early, less));
   }
 
-  pub kept-carried : {x : ℕ} (J q : ℕ) → workRoom ≤ length base → near ≤ 512 → last ≤ 512 → e ≤ 256 → q < e → n ≡ t + J * e + q → x ≡ carriedBy f g t e a n
-      → Kept f g t e a base (set work (carriedPart + q) x) near last (n + 1)
+  pub kept-carried : {x : ℕ} (J q : ℕ) → workRoom ≤ length base → near ≤ 512 → last ≤ 512 → e ≤ 256 → q < e → n ≡ t + J * e + q → x ≡ C n
+      → Kept N L C t e base (set work (carriedPart + q) x) near last (n + 1)
   kept-carried {x} J q room few few′ narrow inside here is = record {
     same-length = length-set work (carriedPart + q) x ∙ kept .same-length;
     listed = λ k less. getD-set-other work (carriedPart + q) k x 0 (λ same. omega (arith, same, less)) ∙ kept .listed k less;
@@ -209,7 +198,7 @@ module _ {f g : ℕ → ℕ} {t e a : ℕ} {base work : List ℕ} {near last n :
         let tick : t + j * e + q ≡ n = omega (arith, here, ap (λ (y : ℕ). y * e) round) in
         ap (λ (y : ℕ). getD (set work (carriedPart + q) x) (carriedPart + y) 0) same
         ∙ getD-set-same work (carriedPart + q) x 0 (omega (arith, kept .same-length))
-        ∙ is ∙ ap (carriedBy f g t e a) (sym tick) ∙ ap (λ (y : ℕ). carriedBy f g t e a (t + j * e + y)) (sym same))
+        ∙ is ∙ ap C (sym tick) ∙ ap (λ (y : ℕ). C (t + j * e + y)) (sym same))
         (λ other.
         let not-here : ¬ (t + j * e + p ≡ n) = λ same. other (same-place j J p q e within inside (omega (arith, same, here))) in
         getD-set-other work (carriedPart + q) (carriedPart + p) x 0 (λ same. other (omega (arith, same)))

@@ -1,5 +1,6 @@
 // Kind 3, the convolution: ticks and splits, nested.
 ghost use mathlib.Core.Path.{_≡_};
+ghost use mathlib.Core.Bool.{true};
 ghost use Prim.Native.Nat.{_+_, _≤_};
 ghost use lib.ListN.{length, set};
 ghost use Rattle.minplus.specs.Claim.{convolution, equals};
@@ -7,6 +8,7 @@ ghost use Rattle.curve.specs.Steps.{Lent, curveFrom, stepped};
 ghost use Rattle.curve.specs.Held.{heldAs};
 ghost use Rattle.search.specs.Break.{Searched, firstOf};
 ghost use Rattle.splits.specs.Parts.{carriedPart, listedOver, workRoom, Carries, carriedIn};
+ghost use Rattle.splits.specs.Reach.{lateOf, reachOf};
 ghost use Rattle.splits.specs.Splits.{leftCurve, rightCurve, Foldable};
 use curve::Form;
 use curve::Ticks;
@@ -31,6 +33,22 @@ const CARRIED: usize = 1_792;
 // How many numbers are lent. What they are before a search does not matter, and after it they are nobody's.
 pub const WORK: usize = 2_048;
 
+// How far v goes in the splits u + v = n that are tried. Of a curve with itself a split and its mirror, v + u, give the
+// same sum.
+fn reach(itself: bool, n: usize) -> usize
+    ensures { λ r. ⌜ r ≡ reachOf itself n ⌝ }
+{
+    if itself { n / 2 } else { n }
+}
+
+// The first tick at which that comes to g's rank.
+fn late_from(itself: bool, start: usize) -> usize
+    requires { ⌜ start ≤ workRoom ⌝ }
+    ensures { λ r. ⌜ r ≡ lateOf itself start ⌝ }
+{
+    if itself { 2 * start } else { start }
+}
+
 // The least over the splits of a tick from g's rank on: that over its first period, or what was a period before the
 // tick, with g's increment. It takes the place of what was a period before.
 fn carry(work: &mut [u32], at: usize, added: u32, turn: usize, gain: u32, again: bool) -> u32
@@ -51,9 +69,10 @@ fn carry(work: &mut [u32], at: usize, added: u32, turn: usize, gain: u32, again:
 
 // The first of the `tried` ticks at which h differs from the convolution of f and g, whose ranks, periods and
 // increments are passed and whose values stand in the lent numbers. Only splits that g lists are tried, as a later one
-// is carried over g's periods; and from the tick `settled` on, past the first periods of both, none is, as all is what
-// it was a period of f before, and c more.
+// is carried over g's periods, and of a curve with itself only the smaller half; and from the tick `settled` on, past
+// the first periods of both, none is, as all is what it was a period of f before, and c more.
 fn first_split(
+    itself: bool,
     rank: usize,
     period: usize,
     increment: u32,
@@ -65,11 +84,12 @@ fn first_split(
     work: &mut [u32],
     tried: usize,
 ) -> Found
-    requires { ⌜ Foldable (leftCurve rank period increment (now work)) (rightCurve start span gain (now work)) (now work) tried × Lent (heldAs h (now claimed)) ⌝ }
+    requires { ⌜ Foldable itself (leftCurve rank period increment (now work)) (rightCurve start span gain (now work)) (now work) tried × Lent (heldAs h (now claimed)) ⌝ }
     ensures { λ r. ⌜ r ≡ firstOf (equals convolution (leftCurve rank period increment (now (work .entry))) (rightCurve start span gain (now (work .entry))) (curveFrom (heldAs h (now (claimed .entry))))) tried ⌝ }
 {
     let count = start + span;
     let settled = rank + period + count - 1;
+    let late = late_from(itself, start);
     let mut walk = Walk::start(h);
     let mut found = Found::Nowhere;
     let mut at: usize = 0;
@@ -77,11 +97,12 @@ fn first_split(
     let mut turn: usize = 0;
     let mut n: usize = 0;
     'ticks: while n < tried {
+        let reached = reach(itself, n);
         if n < settled {
             let mut near = work[n] + work[RIGHT];
             let mut end = start;
-            if n < end {
-                end = n + 1;
+            if reached < end {
+                end = reached + 1;
             }
             let mut v: usize = 1;
             while v < end {
@@ -94,12 +115,12 @@ fn first_split(
             work[NEAR + n] = near;
         }
         let mut due = work[NEAR + at] + added;
-        if start <= n {
+        if late <= n {
             if n < settled {
                 let mut last = work[n - start] + work[RIGHT + start];
                 let mut end = count;
-                if n < end {
-                    end = n + 1;
+                if reached < end {
+                    end = reached + 1;
                 }
                 let mut v: usize = start + 1;
                 while v < end {
@@ -111,7 +132,7 @@ fn first_split(
                 }
                 work[LAST + n] = last;
             }
-            let least = carry(work, at, added, turn, gain, count <= n);
+            let least = carry(work, at, added, turn, gain, late + span <= n);
             if least < due {
                 due = least;
             }
@@ -148,8 +169,9 @@ fn put_listed(form: Form, rises: &[u32], work: &mut [u32], from: usize, count: u
     fill(form, rises, &mut work[from..from + count]);
 }
 
-// The same of curves that are lent.
+// The same of curves that are lent. Whoever knows the book says whether it is a curve with itself.
 pub fn first_apart(
+    itself: bool,
     f: Form,
     left: &[u32],
     g: Form,
@@ -159,7 +181,7 @@ pub fn first_apart(
     tried: usize,
     work: &mut [u32],
 ) -> Found
-    requires { ⌜ Searched (heldAs f (now left)) (heldAs g (now right)) (heldAs h (now claimed)) tried × (workRoom ≤ length (now work)) ⌝ }
+    requires { ⌜ Searched (heldAs f (now left)) (heldAs g (now right)) (heldAs h (now claimed)) tried × (itself ≡ true → heldAs f (now left) ≡ heldAs g (now right)) × (workRoom ≤ length (now work)) ⌝ }
     ensures { λ r. ⌜ r ≡ firstOf (equals convolution (curveFrom (heldAs f (now (left .entry)))) (curveFrom (heldAs g (now (right .entry)))) (curveFrom (heldAs h (now (claimed .entry))))) tried ⌝ }
 {
     let rank = f.rank.0 as usize;
@@ -171,6 +193,7 @@ pub fn first_apart(
     put_listed(f, left, work, 0, settled);
     put_listed(g, right, work, RIGHT, count);
     first_split(
+        itself,
         rank,
         period,
         f.increment,

@@ -1,5 +1,6 @@
 // One claim over its curves: the verdict.
 ghost use mathlib.Core.Path.{_≡_};
+ghost use mathlib.Core.Bool.{true};
 ghost use Prim.Native.Nat.{_≤_};
 ghost use lib.ListN.{length};
 ghost use Rattle.minplus.specs.Verdict.{verdict, recordOf};
@@ -55,6 +56,7 @@ pub struct Record {
 // try the horizon too.
 fn first_break(
     claim: Claim,
+    itself: bool,
     f: Form,
     left: &[u32],
     g: Form,
@@ -64,7 +66,7 @@ fn first_break(
     horizon: usize,
     work: &mut [u32],
 ) -> Found
-    requires { ⌜ Judgeable claim (heldAs f (now left)) (heldAs g (now right)) (heldAs h (now claimed)) horizon × (workRoom ≤ length (now work)) ⌝ }
+    requires { ⌜ Judgeable claim (heldAs f (now left)) (heldAs g (now right)) (heldAs h (now claimed)) horizon × (itself ≡ true → heldAs f (now left) ≡ heldAs g (now right)) × (workRoom ≤ length (now work)) ⌝ }
     ensures { λ r. ⌜ r ≡ breakOf (claimOver claim (curveFrom (heldAs f (now (left .entry)))) (curveFrom (heldAs g (now (right .entry)))) (curveFrom (heldAs h (now (claimed .entry))))) ⌝ }
 {
     match claim {
@@ -72,7 +74,7 @@ fn first_break(
             Operation::Sum => { first_unlike(false, f, left, g, right, h, claimed, horizon + 1) }
             Operation::Minimum => { first_unlike(true, f, left, g, right, h, claimed, horizon + 1) }
             Operation::Convolution => {
-                first_apart(f, left, g, right, h, claimed, horizon + 1, work)
+                first_apart(itself, f, left, g, right, h, claimed, horizon + 1, work)
             }
         },
         Claim::AtMost(deviation) => first_over(deviation, f, left, g, right, horizon),
@@ -83,6 +85,7 @@ fn first_break(
 // The codes in their order, for a claim whose horizon is within the limit.
 fn in_order(
     claim: Claim,
+    itself: bool,
     f: Form,
     left: &[u32],
     g: Form,
@@ -92,10 +95,10 @@ fn in_order(
     horizon: usize,
     work: &mut [u32],
 ) -> Verdict
-    requires { ⌜ Judgeable claim (heldAs f (now left)) (heldAs g (now right)) (heldAs h (now claimed)) horizon × (workRoom ≤ length (now work)) ⌝ }
+    requires { ⌜ Judgeable claim (heldAs f (now left)) (heldAs g (now right)) (heldAs h (now claimed)) horizon × (itself ≡ true → heldAs f (now left) ≡ heldAs g (now right)) × (workRoom ≤ length (now work)) ⌝ }
     ensures { λ r. ⌜ verdictOf r ≡ verdict (claimOver claim (curveFrom (heldAs f (now (left .entry)))) (curveFrom (heldAs g (now (right .entry)))) (curveFrom (heldAs h (now (claimed .entry))))) ⌝ }
 {
-    let found = first_break(claim, f, left, g, right, h, claimed, horizon, work);
+    let found = first_break(claim, itself, f, left, g, right, h, claimed, horizon, work);
     if let Found::At { tick, left, right } = found {
         return Verdict::RefutedAt { tick, left, right };
     }
@@ -120,10 +123,11 @@ fn in_order(
     }
 }
 
-// Of curves that are lent and known to be well formed, with numbers to work in. Nothing is tried for a claim whose
-// horizon is above the limit.
+// Of curves that are lent and known to be well formed, with numbers to work in, and whether left and right are said to
+// be the same curve. Nothing is tried for a claim whose horizon is above the limit.
 pub fn verdict_over(
     claim: Claim,
+    itself: bool,
     f: Form,
     left: &[u32],
     g: Form,
@@ -132,7 +136,7 @@ pub fn verdict_over(
     claimed: &[u32],
     work: &mut [u32],
 ) -> Verdict
-    requires { ⌜ LentClaim claim (heldAs f (now left)) (heldAs g (now right)) (heldAs h (now claimed)) × (workRoom ≤ length (now work)) ⌝ }
+    requires { ⌜ LentClaim claim (heldAs f (now left)) (heldAs g (now right)) (heldAs h (now claimed)) × (itself ≡ true → heldAs f (now left) ≡ heldAs g (now right)) × (workRoom ≤ length (now work)) ⌝ }
     ensures { λ r. ⌜ verdictOf r ≡ verdict (claimOver claim (curveFrom (heldAs f (now (left .entry)))) (curveFrom (heldAs g (now (right .entry)))) (curveFrom (heldAs h (now (claimed .entry))))) ⌝ }
 {
     let horizon = horizon_over(claim, f, left, g, right, h);
@@ -140,10 +144,10 @@ pub fn verdict_over(
         return Verdict::NotJudged;
     }
     let near = horizon as usize;
-    in_order(claim, f, left, g, right, h, claimed, near, work)
+    in_order(claim, itself, f, left, g, right, h, claimed, near, work)
 }
 
-// Of any claim.
+// Of any claim. Here curves have no numbers, so that none is said to be the same as another.
 pub fn verdict_on(claim: Claim, f: Curve, g: Curve, h: Curve) -> Judged
     ensures { λ r. ⌜ judgedOf r ≡ judgement (claimOf claim f g h) ⌝ }
 {
@@ -153,6 +157,7 @@ pub fn verdict_on(claim: Claim, f: Curve, g: Curve, h: Curve) -> Judged
     let mut work = [0u32; WORK];
     Judged::Verdict(verdict_over(
         claim,
+        false,
         f.form,
         &f.rises,
         g.form,

@@ -47,7 +47,7 @@ first-split-requires : tie.Need-first-split-requires
 first-split-requires c κs =
     let a = c .before .before .before .before .before .before .before .before .before .before .before .before .before .before .before .before .before .args in
     let pre = c .before .before .before .before .before .before .before .before .before .before .before .before .before .before .before .before .before .pre in
-    rw (c .before .before .before .put-listed2 .ensures, c .before .before .before .before .before .before .before .put-listed .ensures) (apart-foldable (pre .0) (now (a .work)) (pre .1), pre .0 .claimed)
+    rw (c .before .before .before .put-listed2 .ensures, c .before .before .before .before .before .before .before .put-listed .ensures) (apart-foldable (pre .0) (pre .1) (now (a .work)) (pre .2), pre .0 .claimed)
 
 same-length : tie.Need-same-length
 same-length c = search needs
@@ -59,7 +59,7 @@ returns c =
     let work = c .before .before .before .before .before .before .put-listed2 .ensures ∙ ap (listedOver (stepped (heldAs (a .g) (now (a .right)))) 512 (a .g .rank .0 + a .g .period .0)) (c .before .before .before .before .before .before .before .before .before .before .put-listed .ensures) in
     c .before .before .first-split .ensures
     ∙ ap (λ (l : List ℕ). firstOf (equals convolution (leftCurve (a .f .rank .0) (a .f .period .0) (a .f .increment) l) (rightCurve (a .g .rank .0) (a .g .period .0) (a .g .increment) l) (curveFrom (heldAs (a .h) (now (a .claimed))))) (a .tried)) work
-    ∙ apart-first (pre .0) (now (a .work)) (pre .1)
+    ∙ apart-first (pre .0) (pre .1) (now (a .work)) (pre .2)
 
 pub first-apart-spec : {M : Type 1} → statement M
 first-apart-spec =

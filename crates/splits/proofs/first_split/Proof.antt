@@ -3,10 +3,11 @@
 -- after it, is said where the ways through the turn meet (`due-4`, `kept-4`).
 use Prim.Native.Nat.{ℕ, _+_, _-_, _≤_, _<_, min, max}
 use mathlib.Core.Path.{_≡_, refl, sym, ap, subst, _∙_}
-use mathlib.Core.Bool.{false}
+use mathlib.Core.Bool.{Bool, false}
 use mathlib.Core.List.{List}
 use mathlib.Core.Logic.{⊎-elim}
 use native.Mathlib.Omega.{arith}
+use lib.Dec.{leb}
 use lib.ListN.{getD, length}
 use denote.Ref.{now}
 use borrow.Author.Count.{below-more, below-none}
@@ -21,65 +22,88 @@ use Rattle.curve.specs.declared.walks.Walk.{Walk}
 use Rattle.curve.specs.Walks.{walk-able, walk-next, walk-starts}
 use Rattle.search.specs.declared.Found.the-variants.{Nowhere}
 use Rattle.search.specs.Found.{found-at, found-nowhere}
-use Rattle.splits.specs.Parts.{rightPart, Kept, nearBy, lastBy, nearPart, lastPart, workRoom}
+use Rattle.splits.specs.Parts.{rightPart, nearPart, lastPart, workRoom}
 use Rattle.splits.specs.Periods.{added-fits, Placed, Turned, turned-back, turned-next, turned-early, placed-back, placed-next}
-use Rattle.splits.specs.Splits.{leftCurve, rightCurve, settledOf, Foldable, Folds, LeastUpTo, folds-none, split-fits, split-least, all-tried, near-stored, near-settled, last-stored, last-settled, near-is, near-fits, carries, kept-next, kept-before, carried-is, due-early, due-late, from-first, from-next}
+use Rattle.splits.specs.Reach.{due-early, due-late, late-first, late-inside, late-soon, lastOf, lateOf, nearOf, reach-inside, reachOf}
+use Rattle.splits.specs.Splits.{leftCurve, rightCurve, settledOf, Foldable, Folds, Holds, LeastUpTo, folds-none, split-fits, split-least, all-tried, near-stored, near-settled, last-stored, last-settled, near-is, near-fits, carries, kept-next, kept-before, carried-is, from-first, from-next}
 use Rattle.splits.proofs.first_split.Statement.{statement}
 use Rattle.splits.proofs.first_split.Tie as tie
 
 -- the two inner loops
 abbrev Inv-loop : tie.InvT-loop
-Inv-loop rank period increment start span gain h claimed work tried count settled walk found at added turn n near₀ end v₀ near v =
+Inv-loop itself rank period increment start span gain h claimed work tried count settled late walk found at added turn n reached near₀ end v₀ near v =
     LeastUpTo (λ i. getD work i 0) (λ i. getD work (rightPart + i) 0) (v₀ - 1) n v near × (v ≤ max v₀ end)
 
 abbrev μ-loop : tie.MeasureT-loop
-μ-loop rank period increment start span gain h claimed work tried count settled walk found at added turn n near₀ end v₀ near v = end - v
+μ-loop itself rank period increment start span gain h claimed work tried count settled late walk found at added turn n reached near₀ end v₀ near v = end - v
 
 abbrev Inv-loop2 : tie.InvT-loop2
-Inv-loop2 rank period increment start span gain h claimed work tried count settled walk found at added turn n due last₀ end v₀ last v =
+Inv-loop2 itself rank period increment start span gain h claimed work tried count settled late walk found at added turn n reached due last₀ end v₀ last v =
     LeastUpTo (λ i. getD work i 0) (λ i. getD work (rightPart + i) 0) (v₀ - 1) n v last × (v ≤ max v₀ end)
 
 abbrev μ-loop2 : tie.MeasureT-loop2
-μ-loop2 rank period increment start span gain h claimed work tried count settled walk found at added turn n due last₀ end v₀ last v = end - v
+μ-loop2 itself rank period increment start span gain h claimed work tried count settled late walk found at added turn n reached due last₀ end v₀ last v = end - v
 
 abbrev Inv-ticks : tie.InvT-ticks
-Inv-ticks rank period increment start span gain h claimed work₀ tried count settled walk₀ found₀ at₀ added₀ turn₀ n₀ work walk found at added turn n =
+Inv-ticks itself rank period increment start span gain h claimed work₀ tried count settled late walk₀ found₀ at₀ added₀ turn₀ n₀ work walk found at added turn n =
     let f : Curve = leftCurve rank period increment work₀ in
     let g : Curve = rightCurve start span gain work₀ in
-    ((n ≤ tried) × (found ≡ Nowhere)) × (Folds f g (heldAs h claimed) work₀ work walk n at added turn
+    ((n ≤ tried) × (found ≡ Nowhere)) × (Folds itself f g (heldAs h claimed) work₀ work walk n at added turn
     × ((k : ℕ) → k < n → breaks (equals convolution f g (curveFrom (heldAs h claimed))) k ≡ false))
 
 abbrev μ-ticks : tie.MeasureT-ticks
-μ-ticks rank period increment start span gain h claimed work₀ tried count settled walk₀ found₀ at₀ added₀ turn₀ n₀ work walk found at added turn n = tried - n
+μ-ticks itself rank period increment start span gain h claimed work₀ tried count settled late walk₀ found₀ at₀ added₀ turn₀ n₀ work walk found at added turn n = tried - n
 
 -- a tick that is tried: the curves, what is known of them, and where the search stands
 abbrev Tick : Type 0
-Tick = tie.In-ticks Inv-loop μ-loop Inv-loop2 μ-loop2 Inv-ticks μ-ticks
+Tick = tie.After-reach Inv-loop μ-loop Inv-loop2 μ-loop2 Inv-ticks μ-ticks
 
 abbrev base : Tick → List ℕ
-base c = now (c .before .before .before .before .before .args .work)
+base c = now (c .before .before .before .before .before .before .before .args .work)
 
 abbrev f : Tick → Curve
-f c = let a = c .before .before .before .before .before .args in leftCurve (a .rank) (a .period) (a .increment) (base c)
+f c = let a = c .before .before .before .before .before .before .before .args in leftCurve (a .rank) (a .period) (a .increment) (base c)
 
 abbrev g : Tick → Curve
-g c = let a = c .before .before .before .before .before .args in rightCurve (a .start) (a .span) (a .gain) (base c)
+g c = let a = c .before .before .before .before .before .before .before .args in rightCurve (a .start) (a .span) (a .gain) (base c)
 
 abbrev h : Tick → Steps
-h c = let a = c .before .before .before .before .before .args in heldAs (a .h) (now (a .claimed))
+h c = let a = c .before .before .before .before .before .before .before .args in heldAs (a .h) (now (a .claimed))
 
-ok : (c : Tick) → Foldable (f c) (g c) (base c) (c .before .before .before .before .before .args .tried)
-ok c = c .before .before .before .before .before .pre .0
+abbrev itself : Tick → Bool
+itself c = c .before .before .before .before .before .before .before .args .itself
 
-folds : (c : Tick) → let t = c .before .ticks in Folds (f c) (g c) (h c) (base c) (t .work) (t .walk) (t .n) (t .at) (t .added) (t .turn)
-folds c = c .before .ticks .inv .1 .0
+abbrev tick : Tick → ℕ
+tick c = c .before .before .ticks .n
 
--- no split is past the tick
-ends : (c : tie.Joined2 Inv-loop μ-loop Inv-loop2 μ-loop2 Inv-ticks μ-ticks) → c .if2 .end ≡ min (c .before .before .before .before .before .before .before .before .before .args .start) (c .before .before .before .before .before .ticks .n + 1)
-ends c = ⊎-elim (λ w. omega arith) (λ w. omega arith) (c .if2 .came)
+ok : (c : Tick) → Foldable (itself c) (f c) (g c) (base c) (c .before .before .before .before .before .before .before .args .tried)
+ok c = c .before .before .before .before .before .before .before .pre .0
 
-ends-2 : (c : tie.Joined6 Inv-loop μ-loop Inv-loop2 μ-loop2 Inv-ticks μ-ticks) → c .if6 .end ≡ min (c .before .before .before .before .before .before .before .before .before .before .before .before .args .start + c .before .before .before .before .before .before .before .before .before .before .before .before .args .span) (c .before .before .before .before .before .before .before .before .ticks .n + 1)
-ends-2 c = ⊎-elim (λ w. omega arith) (λ w. omega arith) (c .if6 .came)
+folds : (c : Tick) → let t = c .before .before .ticks in Folds (itself c) (f c) (g c) (h c) (base c) (t .work) (t .walk) (t .n) (t .at) (t .added) (t .turn)
+folds c = c .before .before .ticks .inv .1 .0
+
+-- the first tick that has splits from g's rank on, and how far v goes in those of this tick
+late-is : (c : Tick) → c .before .before .before .before .late-from .result ≡ lateOf (itself c) (g c .rank)
+late-is c = c .before .before .before .before .late-from .ensures
+
+reach-is : (c : Tick) → c .reach .result ≡ reachOf (itself c) (tick c)
+reach-is c = c .reach .ensures
+
+inside : (c : Tick) → reachOf (itself c) (tick c) ≤ tick c
+inside c = reach-inside (itself c) (tick c)
+
+late-on : (c : Tick) → c .before .before .before .before .late-from .result ≤ tick c → lateOf (itself c) (g c .rank) ≤ tick c
+late-on c le = omega (arith, late-is c, le)
+
+again-is : (c : Tick) → leb (c .before .before .before .before .late-from .result + g c .period) (tick c) ≡ leb (lateOf (itself c) (g c .rank) + g c .period) (tick c)
+again-is c = ap (λ (x : ℕ). leb (x + g c .period) (tick c)) (late-is c)
+
+-- no split is past that
+ends : (c : tie.Joined2 Inv-loop μ-loop Inv-loop2 μ-loop2 Inv-ticks μ-ticks) → let t = c .before .before .before .before in c .if2 .end ≡ min (g t .rank) (reachOf (itself t) (tick t) + 1)
+ends c = let r = reach-is (c .before .before .before .before) in ⊎-elim (λ w. omega (arith, r)) (λ w. omega (arith, r)) (c .if2 .came)
+
+ends-2 : (c : tie.Joined6 Inv-loop μ-loop Inv-loop2 μ-loop2 Inv-ticks μ-ticks) → let t = c .before .before .before .before .before .before .before in c .if6 .end ≡ min (g t .rank + g t .period) (reachOf (itself t) (tick t) + 1)
+ends-2 c = let r = reach-is (c .before .before .before .before .before .before .before) in ⊎-elim (λ w. omega (arith, r)) (λ w. omega (arith, r)) (c .if6 .came)
 
 add-count : tie.Need-add-count Inv-loop μ-loop Inv-loop2 μ-loop2 Inv-ticks μ-ticks
 add-count c = omega arith
@@ -93,15 +117,21 @@ add-settled-2 c = omega arith
 sub-settled : tie.Need-sub-settled Inv-loop μ-loop Inv-loop2 μ-loop2 Inv-ticks μ-ticks
 sub-settled c = omega arith
 
+late-from-requires : tie.Need-late-from-requires Inv-loop μ-loop Inv-loop2 μ-loop2 Inv-ticks μ-ticks
+late-from-requires c κs = let ok = c .before .before .pre .0 in omega (arith, ok .right-count)
+
 start-requires : tie.Need-start-requires Inv-loop μ-loop Inv-loop2 μ-loop2 Inv-ticks μ-ticks
 start-requires c κs = tt
 
 ticks-holds : tie.Need-ticks-holds Inv-loop μ-loop Inv-loop2 μ-loop2 Inv-ticks μ-ticks
 ticks-holds c =
-    let pre = c .before .before .before .pre in
-    let a = c .before .before .before .args in
+    let pre = c .before .before .before .before .pre in
+    let a = c .before .before .before .before .args in
     let H : Steps = heldAs (a .h) (now (a .claimed)) in
     ((omega arith, refl), (folds-none (pre .0) (c .start .ensures ∙ walk-starts H (pre .1 .well)), below-none _))
+
+reach-requires : tie.Need-reach-requires Inv-loop μ-loop Inv-loop2 μ-loop2 Inv-ticks μ-ticks
+reach-requires c κs = tt
 
 mul-near : tie.Need-mul-near Inv-loop μ-loop Inv-loop2 μ-loop2 Inv-ticks μ-ticks
 mul-near c = omega arith
@@ -115,7 +145,7 @@ slice-read-near-2 c = omega arith
 add-near : tie.Need-add-near Inv-loop μ-loop Inv-loop2 μ-loop2 Inv-ticks μ-ticks
 add-near c =
     let t = c .before .before .before in
-    let n : ℕ = t .before .ticks .n in
+    let n : ℕ = tick t in
     omega (arith, split-fits (ok t) (folds t .kept) n 0 (omega arith) (omega (arith, ok t .right-period)) (omega arith))
 
 add-end : tie.Need-add-end Inv-loop μ-loop Inv-loop2 μ-loop2 Inv-ticks μ-ticks
@@ -125,7 +155,7 @@ loop-holds : tie.Need-loop-holds Inv-loop μ-loop Inv-loop2 μ-loop2 Inv-ticks �
 loop-holds c = (from-first _ _ _ _ _ _ _ 0 (omega arith) (omega arith) (omega arith) refl, omega arith)
 
 sub-split : tie.Need-sub-split Inv-loop μ-loop Inv-loop2 μ-loop2 Inv-ticks μ-ticks
-sub-split c = omega (arith, ends (c .before .before))
+sub-split c = omega (arith, ends (c .before .before), inside (c .before .before .before .before .before .before))
 
 mul-split : tie.Need-mul-split Inv-loop μ-loop Inv-loop2 μ-loop2 Inv-ticks μ-ticks
 mul-split c = omega arith
@@ -145,9 +175,10 @@ slice-read-split-2 c = omega (arith, ends (c .before .before .before .before))
 add-split-2 : tie.Need-add-split-2 Inv-loop μ-loop Inv-loop2 μ-loop2 Inv-ticks μ-ticks
 add-split-2 c =
     let t = c .before .before .before .before .before .before .before .before in
-    let n : ℕ = t .before .ticks .n in
+    let n : ℕ = tick t in
     let v : ℕ = c .before .before .before .loop .v in
-    omega (arith, ends (c .before .before .before .before), split-fits (ok t) (folds t .kept) (n - v) v (omega (arith, ends (c .before .before .before .before))) (omega (arith, ends (c .before .before .before .before))) (omega (arith, ends (c .before .before .before .before))))
+    let end = ends (c .before .before .before .before) in
+    omega (arith, split-fits (ok t) (folds t .kept) (n - v) v (omega arith) (omega (arith, end)) (omega (arith, end, inside t)))
 
 add-v : tie.Need-add-v Inv-loop μ-loop Inv-loop2 μ-loop2 Inv-ticks μ-ticks
 add-v c = omega (arith, ends (c .before .before .before .before .before))
@@ -176,15 +207,15 @@ ends-last : (end start span n : ℕ) → start ≤ n → 1 ≤ span → end ≡ 
 ends-last end start span n late some is = omega (arith, is, late, some)
 
 -- the first inner loop ends with near, the second with last
-near-done : (c : tie.After-loop Inv-loop μ-loop Inv-loop2 μ-loop2 Inv-ticks μ-ticks) → let t = c .before .before .before .before .before .before in c .before .loop .near ≡ nearBy (value (f t)) (value (g t)) (g t .rank) (t .before .ticks .n)
+near-done : (c : tie.After-loop Inv-loop μ-loop Inv-loop2 μ-loop2 Inv-ticks μ-ticks) → let t = c .before .before .before .before .before .before in c .before .loop .near ≡ nearOf (itself t) (f t) (g t) (tick t)
 near-done c =
     let t = c .before .before .before .before .before .before in
     let l = c .before .loop in
-    split-least (ok t) (folds t .kept) (g t .rank - 1) (l .inv .0) (omega (arith, ok t .right-period)) (omega arith)
+    split-least (ok t) (folds t .kept) (g t .rank - 1) (reachOf (itself t) (tick t)) (l .inv .0) (omega (arith, ok t .right-period)) (omega arith)
     (all-tried _ _ _ _ _ (omega arith) (ends-near _ _ _ (ends (c .before .before))) (l .inv .0 .begun) (c .loop-test .left) (l .inv .1))
 
-kept-1 : (c : tie.Joined1 Inv-loop μ-loop Inv-loop2 μ-loop2 Inv-ticks μ-ticks) → let t = c .before in let n = t .before .ticks .n in
-    Kept (value (f t)) (value (g t)) (g t .rank) (g t .period) (g t .increment) (base t) (c .if1 .work) (min (n + 1) (settledOf (f t) (g t))) (min n (settledOf (f t) (g t))) n
+kept-1 : (c : tie.Joined1 Inv-loop μ-loop Inv-loop2 μ-loop2 Inv-ticks μ-ticks) → let t = c .before in let n = tick t in
+    Holds (itself t) (f t) (g t) (base t) (c .if1 .work) (min (n + 1) (settledOf (f t) (g t))) (min n (settledOf (f t) (g t))) n
 kept-1 c =
     let t = c .before in
     ⊎-elim
@@ -198,7 +229,7 @@ long-1 : (c : tie.Joined1 Inv-loop μ-loop Inv-loop2 μ-loop2 Inv-ticks μ-ticks
 long-1 c = omega (arith, kept-1 c .same-length, ok (c .before) .room)
 
 due-1 : (c : tie.Joined1 Inv-loop μ-loop Inv-loop2 μ-loop2 Inv-ticks μ-ticks) → let t = c .before in
-    getD (c .if1 .work) (nearPart + t .before .ticks .at) 0 + t .before .ticks .added ≡ nearBy (value (f t)) (value (g t)) (g t .rank) (t .before .ticks .n)
+    getD (c .if1 .work) (nearPart + t .before .before .ticks .at) 0 + t .before .before .ticks .added ≡ nearOf (itself t) (f t) (g t) (tick t)
 due-1 c = let t = c .before in near-is (ok t) (folds t .placed) (kept-1 c)
 
 add-due : tie.Need-add-due Inv-loop μ-loop Inv-loop2 μ-loop2 Inv-ticks μ-ticks
@@ -213,7 +244,12 @@ slice-read-due c =
     omega (arith, kept-1 (c .before) .same-length, ok t .room, folds t .placed .inside, ok t .left-count, ok t .right-count)
 
 add-due-2 : tie.Need-add-due-2 Inv-loop μ-loop Inv-loop2 μ-loop2 Inv-ticks μ-ticks
-add-due-2 c = let t = c .before .before in omega (arith, due-1 (c .before), near-fits (ok t) (t .before .ticks .n) (omega arith))
+add-due-2 c = let t = c .before .before in omega (arith, due-1 (c .before), near-fits (ok t) (tick t) (omega arith))
+
+sub-last : tie.Need-sub-last Inv-loop μ-loop Inv-loop2 μ-loop2 Inv-ticks μ-ticks
+sub-last c =
+    let t = c .before .before .before .before in
+    late-inside (itself t) (g t .rank) (tick t) (late-on t (c .before .if4 .taken))
 
 mul-last : tie.Need-mul-last Inv-loop μ-loop Inv-loop2 μ-loop2 Inv-ticks μ-ticks
 mul-last c = omega arith
@@ -233,9 +269,9 @@ slice-read-last-2 c = omega (arith, long-1 (c .before .before .before .before .b
 add-last-2 : tie.Need-add-last-2 Inv-loop μ-loop Inv-loop2 μ-loop2 Inv-ticks μ-ticks
 add-last-2 c =
     let t = c .before .before .before .before .before .before in
-    let n : ℕ = t .before .ticks .n in
+    let n : ℕ = tick t in
     let start : ℕ = g t .rank in
-    let late : start ≤ n = c .before .before .before .if4 .taken in
+    let late : start ≤ n = late-inside (itself t) start n (late-on t (c .before .before .before .if4 .taken)) in
     omega (arith, split-fits (ok t) (kept-1 (c .before .before .before .before .before)) (n - start) start (omega arith) (omega (arith, ok t .right-period)) (omega (arith, late)))
 
 add-end-2 : tie.Need-add-end-2 Inv-loop μ-loop Inv-loop2 μ-loop2 Inv-ticks μ-ticks
@@ -248,7 +284,7 @@ loop2-holds : tie.Need-loop2-holds Inv-loop μ-loop Inv-loop2 μ-loop2 Inv-ticks
 loop2-holds c = (from-first _ _ _ _ _ _ _ _ (omega arith) (omega arith) (omega arith) refl, omega arith)
 
 sub-split-2 : tie.Need-sub-split-2 Inv-loop μ-loop Inv-loop2 μ-loop2 Inv-ticks μ-ticks
-sub-split-2 c = omega (arith, ends-2 (c .before .before))
+sub-split-2 c = omega (arith, ends-2 (c .before .before), inside (c .before .before .before .before .before .before .before .before .before))
 
 mul-split-3 : tie.Need-mul-split-3 Inv-loop μ-loop Inv-loop2 μ-loop2 Inv-ticks μ-ticks
 mul-split-3 c = omega arith
@@ -270,10 +306,10 @@ slice-read-split-4 c = omega (arith, ends-2 (c .before .before .before .before),
 add-split-4 : tie.Need-add-split-4 Inv-loop μ-loop Inv-loop2 μ-loop2 Inv-ticks μ-ticks
 add-split-4 c =
     let t = c .before .before .before .before .before .before .before .before .before .before .before in
-    let n : ℕ = t .before .ticks .n in
+    let n : ℕ = tick t in
     let v : ℕ = c .before .before .before .loop2 .v in
     let end = ends-2 (c .before .before .before .before) in
-    omega (arith, split-fits (ok t) (kept-1 (c .before .before .before .before .before .before .before .before .before .before)) (n - v) v (omega (arith, end)) (omega (arith, end)) (omega (arith, end)))
+    omega (arith, split-fits (ok t) (kept-1 (c .before .before .before .before .before .before .before .before .before .before)) (n - v) v (omega arith) (omega (arith, end)) (omega (arith, end, inside t)))
 
 add-v-3 : tie.Need-add-v-3 Inv-loop μ-loop Inv-loop2 μ-loop2 Inv-ticks μ-ticks
 add-v-3 c = omega (arith, ends-2 (c .before .before .before .before .before), ok (c .before .before .before .before .before .before .before .before .before .before .before .before) .right-count)
@@ -295,21 +331,22 @@ mul-work-2 c = omega arith
 slice-write-work-2 : tie.Need-slice-write-work-2 Inv-loop μ-loop Inv-loop2 μ-loop2 Inv-ticks μ-ticks
 slice-write-work-2 c = omega (arith, long-1 (c .before .before .before .before .before .before .before .before), ok (c .before .before .before .before .before .before .before .before .before) .left-count, ok (c .before .before .before .before .before .before .before .before .before) .right-count)
 
-last-done : (c : tie.After-loop2 Inv-loop μ-loop Inv-loop2 μ-loop2 Inv-ticks μ-ticks) → let t = c .before .before .before .before .before .before .before .before .before in c .before .loop2 .last ≡ lastBy (value (f t)) (value (g t)) (g t .rank) (g t .period) (t .before .ticks .n)
+last-done : (c : tie.After-loop2 Inv-loop μ-loop Inv-loop2 μ-loop2 Inv-ticks μ-ticks) → let t = c .before .before .before .before .before .before .before .before .before in c .before .loop2 .last ≡ lastOf (itself t) (f t) (g t) (tick t)
 last-done c =
     let t = c .before .before .before .before .before .before .before .before .before in
     let l = c .before .loop2 in
-    let late : g t .rank ≤ t .before .ticks .n = c .before .before .before .before .before .before .if4 .taken in
+    let late : lateOf (itself t) (g t .rank) ≤ tick t = late-on t (c .before .before .before .before .before .before .if4 .taken) in
+    let within : g t .rank ≤ reachOf (itself t) (tick t) = late-first (itself t) (g t .rank) (tick t) .0 late in
     let work : List ℕ = c .before .before .before .before .before .before .before .before .if1 .work in
     let low : g t .rank + 1 - 1 ≡ g t .rank = omega arith in
     let begun : g t .rank + 1 ≤ l .v = omega (arith, l .inv .0 .begun) in
-    split-least (ok t) (kept-1 (c .before .before .before .before .before .before .before .before)) (g t .period - 1)
-    (subst (λ (k : ℕ). LeastUpTo (λ i. getD work i 0) (λ i. getD work (rightPart + i) 0) k (t .before .ticks .n) (l .v) (l .last)) low (l .inv .0))
+    split-least (ok t) (kept-1 (c .before .before .before .before .before .before .before .before)) (g t .period - 1) (reachOf (itself t) (tick t))
+    (subst (λ (k : ℕ). LeastUpTo (λ i. getD work i 0) (λ i. getD work (rightPart + i) 0) k (tick t) (l .v) (l .last)) low (l .inv .0))
     (omega (arith, ok t .right-period)) (omega arith)
-    (all-tried _ _ _ _ _ late (ends-last _ _ _ _ late (ok t .right-period) (ends-2 (c .before .before))) begun (c .loop2-test .left) (l .inv .1))
+    (all-tried _ _ _ _ _ within (ends-last _ _ _ _ within (ok t .right-period) (ends-2 (c .before .before))) begun (c .loop2-test .left) (l .inv .1))
 
-kept-5 : (c : tie.Joined5 Inv-loop μ-loop Inv-loop2 μ-loop2 Inv-ticks μ-ticks) → let t = c .before .before .before .before in let n = t .before .ticks .n in
-    Kept (value (f t)) (value (g t)) (g t .rank) (g t .period) (g t .increment) (base t) (c .if5 .work) (min (n + 1) (settledOf (f t) (g t))) (min (n + 1) (settledOf (f t) (g t))) n
+kept-5 : (c : tie.Joined5 Inv-loop μ-loop Inv-loop2 μ-loop2 Inv-ticks μ-ticks) → let t = c .before .before .before .before in let n = tick t in
+    Holds (itself t) (f t) (g t) (base t) (c .if5 .work) (min (n + 1) (settledOf (f t) (g t))) (min (n + 1) (settledOf (f t) (g t))) n
 kept-5 c =
     let t = c .before .before .before .before in
     ⊎-elim
@@ -319,57 +356,62 @@ kept-5 c =
     (λ w. rw (w .1) (last-settled (ok t) (omega (arith, w .0 .left)) (kept-1 (c .before .before .before))))
     (c .if5 .came)
 
+add-carry : tie.Need-add-carry Inv-loop μ-loop Inv-loop2 μ-loop2 Inv-ticks μ-ticks
+add-carry c =
+    let t = c .before .before .before .before .before in
+    omega (arith, late-is t, late-soon (ok t .one-curve) (ok t .right-period), ok t .left-count, ok t .right-count)
+
 carry-requires : tie.Need-carry-requires Inv-loop μ-loop Inv-loop2 μ-loop2 Inv-ticks μ-ticks
 carry-requires c κs =
     let t = c .before .before .before .before .before in
-    carries (ok t) (c .before .before .if4 .taken) (kept-5 (c .before)) (folds t .placed) (folds t .turned) _ refl (omega arith)
+    carries (ok t) (late-on t (c .before .before .if4 .taken)) (kept-5 (c .before)) (folds t .placed) (folds t .turned) _ (again-is t) (omega arith)
 
 add-turn : tie.Need-add-turn Inv-loop μ-loop Inv-loop2 μ-loop2 Inv-ticks μ-ticks
 add-turn c = omega arith
 
-cast-t77 : tie.Need-cast-t77 Inv-loop μ-loop Inv-loop2 μ-loop2 Inv-ticks μ-ticks
-cast-t77 c = omega arith
+cast-t81 : tie.Need-cast-t81 Inv-loop μ-loop Inv-loop2 μ-loop2 Inv-ticks μ-ticks
+cast-t81 c = omega arith
 
 -- after what is carried: it is due, and stands where the next period looks for it
-due-8 : (c : tie.Joined8 Inv-loop μ-loop Inv-loop2 μ-loop2 Inv-ticks μ-ticks) → let t = c .before .before .before .before .before .before .before .before .before in c .if8 .due ≡ conv (value (f t)) (value (g t)) (t .before .ticks .n)
+due-8 : (c : tie.Joined8 Inv-loop μ-loop Inv-loop2 μ-loop2 Inv-ticks μ-ticks) → let t = c .before .before .before .before .before .before .before .before .before in c .if8 .due ≡ conv (value (f t)) (value (g t)) (tick t)
 due-8 c =
     let t = c .before .before .before .before .before .before .before .before .before in
-    let late : g t .rank ≤ t .before .ticks .n = c .before .before .before .before .before .before .if4 .taken in
-    let carried = c .before .before .before .carry .ensures .0 ∙ carried-is (ok t) late (kept-5 (c .before .before .before .before .before)) (folds t .placed) (folds t .turned) _ refl in
-    ⊎-elim (λ w. omega (arith, carried, due-1 (c .before .before .before .before .before .before .before .before), w .0 .taken, w .1, due-late (ok t) (t .before .ticks .n) late))
-    (λ w. omega (arith, carried, due-1 (c .before .before .before .before .before .before .before .before), w .0 .left, w .1, due-late (ok t) (t .before .ticks .n) late)) (c .if8 .came)
+    let late : lateOf (itself t) (g t .rank) ≤ tick t = late-on t (c .before .before .before .before .before .before .if4 .taken) in
+    let carried = c .before .before .before .carry .ensures .0 ∙ carried-is (ok t) late (kept-5 (c .before .before .before .before .before)) (folds t .placed) (folds t .turned) _ (again-is t) in
+    ⊎-elim (λ w. omega (arith, carried, due-1 (c .before .before .before .before .before .before .before .before), w .0 .taken, w .1, due-late (ok t .one-curve) (ok t .right-period) (tick t) late))
+    (λ w. omega (arith, carried, due-1 (c .before .before .before .before .before .before .before .before), w .0 .left, w .1, due-late (ok t .one-curve) (ok t .right-period) (tick t) late)) (c .if8 .came)
 
 -- at every tick
-due-4 : (c : tie.Joined4 Inv-loop μ-loop Inv-loop2 μ-loop2 Inv-ticks μ-ticks) → let t = c .before .before .before in c .if4 .due ≡ conv (value (f t)) (value (g t)) (t .before .ticks .n)
+due-4 : (c : tie.Joined4 Inv-loop μ-loop Inv-loop2 μ-loop2 Inv-ticks μ-ticks) → let t = c .before .before .before in c .if4 .due ≡ conv (value (f t)) (value (g t)) (tick t)
 due-4 c =
     let t = c .before .before .before in
     ⊎-elim (λ w. w .10 ∙ due-8 (record { before = record { before = record { before = record { before = record { before = record { before = record { before = c .before; if4 = w .0 }; if5 = w .1 }; carry-arg = w .2 }; carry = w .3 }; work = w .4 }; slice-known11 = w .5 }; if8 = w .6 }))
     (⊎-elim (λ w. w .10 ∙ due-8 (record { before = record { before = record { before = record { before = record { before = record { before = record { before = c .before; if4 = w .0 }; if5 = w .1 }; carry-arg = w .2 }; carry = w .3 }; work = w .4 }; slice-known11 = w .5 }; if8 = w .6 }))
-    (λ w. w .3 ∙ due-1 (c .before .before) ∙ due-early (ok t) (t .before .ticks .n) (omega (arith, w .0 .left))))
+    (λ w. w .3 ∙ due-1 (c .before .before) ∙ due-early (ok t .one-curve) (tick t) (omega (arith, late-is t, w .0 .left))))
     (c .if4 .came)
 
-kept-4 : (c : tie.Joined4 Inv-loop μ-loop Inv-loop2 μ-loop2 Inv-ticks μ-ticks) → let t = c .before .before .before in let n = t .before .ticks .n in
-    Kept (value (f t)) (value (g t)) (g t .rank) (g t .period) (g t .increment) (base t) (c .if4 .work) (min (n + 1) (settledOf (f t) (g t))) (min (n + 1) (settledOf (f t) (g t))) (n + 1)
+kept-4 : (c : tie.Joined4 Inv-loop μ-loop Inv-loop2 μ-loop2 Inv-ticks μ-ticks) → let t = c .before .before .before in let n = tick t in
+    Holds (itself t) (f t) (g t) (base t) (c .if4 .work) (min (n + 1) (settledOf (f t) (g t))) (min (n + 1) (settledOf (f t) (g t))) (n + 1)
 kept-4 c =
     let t = c .before .before .before in
-    let few : min (t .before .ticks .n + 1) (settledOf (f t) (g t)) ≤ settledOf (f t) (g t) = omega arith in
-    ⊎-elim (λ w. rw (w .8, w .3 .ensures .1) (kept-next (ok t) (w .0 .taken) (kept-5 (record { before = record { before = c .before; if4 = w .0 }; if5 = w .1 })) (folds t .placed) (folds t .turned) _ refl few refl))
-    (⊎-elim (λ w. rw (w .8, w .3 .ensures .1) (kept-next (ok t) (w .0 .taken) (kept-5 (record { before = record { before = c .before; if4 = w .0 }; if5 = w .1 })) (folds t .placed) (folds t .turned) _ refl few refl))
-    (λ w. rw (w .1) (kept-before (ok t) (omega (arith, w .0 .left)) (kept-1 (c .before .before)))))
+    let few : min (tick t + 1) (settledOf (f t) (g t)) ≤ settledOf (f t) (g t) = omega arith in
+    ⊎-elim (λ w. rw (w .8, w .3 .ensures .1) (kept-next (ok t) (late-on t (w .0 .taken)) (kept-5 (record { before = record { before = c .before; if4 = w .0 }; if5 = w .1 })) (folds t .placed) (folds t .turned) _ (again-is t) few refl))
+    (⊎-elim (λ w. rw (w .8, w .3 .ensures .1) (kept-next (ok t) (late-on t (w .0 .taken)) (kept-5 (record { before = record { before = c .before; if4 = w .0 }; if5 = w .1 })) (folds t .placed) (folds t .turned) _ (again-is t) few refl))
+    (λ w. rw (w .1) (kept-before (ok t) (omega (arith, late-is t, w .0 .left)) (kept-1 (c .before .before)))))
     (c .if4 .came)
 
-turned-4 : (c : tie.Joined4 Inv-loop μ-loop Inv-loop2 μ-loop2 Inv-ticks μ-ticks) → let t = c .before .before .before in Turned (g t .rank) (g t .period) (t .before .ticks .n + 1) (c .if4 .turn)
+turned-4 : (c : tie.Joined4 Inv-loop μ-loop Inv-loop2 μ-loop2 Inv-ticks μ-ticks) → let t = c .before .before .before in Turned (lateOf (itself t) (g t .rank)) (g t .period) (tick t + 1) (c .if4 .turn)
 turned-4 c =
     let t = c .before .before .before in
-    ⊎-elim (λ w. rw (w .9) (turned-back (folds t .turned) (w .0 .taken) (w .7 .taken)))
-    (⊎-elim (λ w. rw (w .9) (turned-next (folds t .turned) (w .0 .taken) (omega (arith, folds t .turned .inside, w .7 .left))))
-    (λ w. rw (w .2) (turned-early (folds t .turned) (omega (arith, w .0 .left)))))
+    ⊎-elim (λ w. rw (w .9) (turned-back (folds t .turned) (late-on t (w .0 .taken)) (w .7 .taken)))
+    (⊎-elim (λ w. rw (w .9) (turned-next (folds t .turned) (late-on t (w .0 .taken)) (omega (arith, folds t .turned .inside, w .7 .left))))
+    (λ w. rw (w .2) (turned-early (folds t .turned) (omega (arith, late-is t, w .0 .left)))))
     (c .if4 .came)
 
 next-requires : tie.Need-next-requires Inv-loop μ-loop Inv-loop2 μ-loop2 Inv-ticks μ-ticks
 next-requires c κs =
     let t = c .before .before .before .before .before .before .before in
-    rw (folds t .walked) (walk-able (t .before .before .before .before .before .pre .1) (t .before .ticks .n) (omega (arith, ok t .within)))
+    rw (folds t .walked) (walk-able (t .before .before .before .before .before .before .before .pre .1) (tick t) (omega (arith, ok t .within)))
 
 add-at : tie.Need-add-at Inv-loop μ-loop Inv-loop2 μ-loop2 Inv-ticks μ-ticks
 add-at c = omega arith
@@ -392,7 +434,7 @@ ticks-again : tie.Need-ticks-again Inv-loop μ-loop Inv-loop2 μ-loop2 Inv-ticks
 unfolding breaks leftAt rightAt due
 ticks-again c =
     let t = c .before .before .before .before .before .before .before .before .before in
-    let l = t .before .ticks in
+    let l = t .before .before .ticks in
     let n : ℕ = l .n in
     let j = c .before .before .before .before .before .before in
     let value-is = ap (λ (w : Walk). w .value .0) (folds t .walked) in
@@ -400,7 +442,7 @@ ticks-again c =
     let placed : Placed (settledOf (f t) (g t)) (f t .period) (f t .increment) (n + 1) (c .if11 .at) (c .if11 .added) =
     ⊎-elim (λ w. rw (w .1, w .2) (placed-back (folds t .placed) (ok t .left-period) (omega (arith, ok t .right-period)) (w .0 .taken)))
     (λ w. rw (w .1, w .2) (placed-next (folds t .placed) (omega (arith, folds t .placed .inside, w .0 .left)))) (c .if11 .came) in
-    let walked = walk-next (t .before .before .before .before .before .pre .1) (folds t .walked) (c .before .next .ensures) (omega (arith, ok t .within)) in (
+    let walked = walk-next (t .before .before .before .before .before .before .before .pre .1) (folds t .walked) (c .before .next .ensures) (omega (arith, ok t .within)) in (
       (omega arith, l .inv .0 .1),
       (record { kept = kept-4 j; placed = placed; turned = turned-4 j; walked = walked }, below-more _ _ (l .inv .1 .1) (rw (eq-eqb _ _ equal))),
     )
@@ -422,8 +464,8 @@ returns-2 c =
     let t = c .before .before .before .before .before .before .before in
     let e = due-4 (c .before .before .before .before) in
     let value-is = ap (λ (w : Walk). w .value .0) (folds t .walked) in
-    found-at _ _ _ _ (t .before .ticks .n) e value-is (t .before .ticks .inv .1 .1)
-    (rw (ne-eqb _ _ (λ same. c .if10 .taken (e ∙ same ∙ sym value-is)))) (t .ticks-test .taken)
+    found-at _ _ _ _ (tick t) e value-is (t .before .before .ticks .inv .1 .1)
+    (rw (ne-eqb _ _ (λ same. c .if10 .taken (e ∙ same ∙ sym value-is)))) (t .before .ticks-test .taken)
 
 pub first-split-spec : {M : Type 1} → statement M
 first-split-spec =
@@ -439,8 +481,10 @@ first-split-spec =
     add-settled
     add-settled-2
     sub-settled
+    late-from-requires
     start-requires
     ticks-holds
+    reach-requires
     mul-near
     slice-read-near
     slice-read-near-2
@@ -464,6 +508,7 @@ first-split-spec =
     mul-due
     slice-read-due
     add-due-2
+    sub-last
     mul-last
     slice-read-last
     add-last
@@ -486,9 +531,10 @@ first-split-spec =
     add-work-2
     mul-work-2
     slice-write-work-2
+    add-carry
     carry-requires
     add-turn
-    cast-t77
+    cast-t81
     next-requires
     add-at
     sub-at

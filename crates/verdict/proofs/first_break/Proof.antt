@@ -35,8 +35,9 @@ add-first-apart c = search needs
 
 first-apart-requires : tie.Need-first-apart-requires
 first-apart-requires c κs =
-    let j = rw (c .before .before .before .before .claim .given .1) at (c .before .before .before .before .before .before .before .before .before .before .pre .0) in
-    (record { left = j .lent .0; right = j .lent .1; claimed = j .lent .2; within = omega (arith, j .within) }, c .before .before .before .before .before .before .before .before .before .before .pre .1)
+    let pre = c .before .before .before .before .before .before .before .before .before .before .pre in
+    let j = rw (c .before .before .before .before .claim .given .1) at (pre .0) in
+    (record { left = j .lent .0; right = j .lent .1; claimed = j .lent .2; within = omega (arith, j .within) }, pre .1, pre .2)
 
 enum-known-claim-2 : tie.Need-enum-known-claim-2
 enum-known-claim-2 c = search needs

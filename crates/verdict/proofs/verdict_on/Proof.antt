@@ -1,4 +1,5 @@
 use mathlib.Core.Path.{sym, _∙_}
+use mathlib.Core.Bool.{false≢true}
 use native.Mathlib.Omega.{arith}
 use borrow.Author.Needs.{needs}
 use borrow.Author.Tests.{not-true, not-false}
@@ -21,7 +22,7 @@ verdict-over-requires : tie.Need-verdict-over-requires
 verdict-over-requires c κs =
     let a = c .before .before .before .before .before .before .before .before .before .before .before .before .before .before .before .args in
     let well = well-formed-claim _ .0 (sym (c .before .before .before .before .before .before .before .before .before .before .before .before .before .before .well-formed-claim .ensures) ∙ not-false _ (c .before .before .before .before .before .before .before .before .before .before .before .before .before .if1 .left)) in
-    (claim-lent (a .claim) (a .t2) (a .t3) (a .t4) (omega arith) (omega arith) (omega arith) well, omega arith)
+    (claim-lent (a .claim) (a .t2) (a .t3) (a .t4) (omega arith) (omega arith) (omega arith) well, λ said. absurd (false≢true said), omega arith)
 
 returns-2 : tie.Need-returns-2
 returns-2 c = rw (c .before .verdict-over .ensures) (judgement-some _ (sym (c .before .before .before .before .before .before .before .before .before .before .before .before .before .before .before .before .well-formed-claim .ensures) ∙ not-false _ (c .before .before .before .before .before .before .before .before .before .before .before .before .before .before .before .if1 .left)))

@@ -25,7 +25,7 @@ returns c = verdict-far _ (omega (arith, horizon-is (c .before), c .if1 .taken))
 in-order-requires : tie.Need-in-order-requires
 in-order-requires c κs =
     let pre = c .before .before .before .before .before .before .before .pre in
-    (record { lent = pre .0; is-horizon = horizon-is (c .before .before); within = omega arith }, pre .1)
+    (record { lent = pre .0; is-horizon = horizon-is (c .before .before); within = omega arith }, pre .1, pre .2)
 
 same-length : tie.Need-same-length
 same-length c = search needs

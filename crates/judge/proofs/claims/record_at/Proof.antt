@@ -1,12 +1,15 @@
 use mathlib.Core.Path.{_≡_, sym, ap, _∙_}
+use mathlib.Core.Bool.{true}
+use lib.Dec.{eqb}
 use denote.Ref.{now}
+use borrow.Author.Tests.{eqb-true}
 use borrow.Author.Needs.{needs}
 use Rattle.minplus.specs.Verdict.{recordOf}
 use Rattle.content.specs.declared.Stated.{Stated}
 use Rattle.content.specs.declared.ClaimField.the-variants as claim-field
 use Rattle.content.specs.Refusals.{claimField}
 use Rattle.field.specs.Fields.{contentAt}
-use Rattle.judge.specs.Kept.{ClaimReady, verdictKept}
+use Rattle.judge.specs.Kept.{ClaimReady, stepsIn, verdictKept}
 use Rattle.judge.proofs.claims.record_at.Statement.{statement}
 use Rattle.judge.proofs.claims.record_at.Tie as tie
 
@@ -57,10 +60,17 @@ rises-at-requires-2 c κs = let t = c .before .before .before .before in (ready 
 rises-at-requires-3 : tie.Need-rises-at-requires-3
 rises-at-requires-3 c κs = let t = c .before .before .before .before .before in (ready t .claimed-named (stated t) (so t), t .before .before .before .before .before .before .before .before .pre .2)
 
+-- curves of the same number are the same curve
+one : (c : tie.After-known-told) → let a = c .before .before .before .before .before .before .before .before .args in
+    eqb (stated c .left) (stated c .right) ≡ true → stepsIn (now (a .forms)) (now (a .rises)) (stated c .left) ≡ stepsIn (now (a .forms)) (now (a .rises)) (stated c .right)
+one c same =
+    let a = c .before .before .before .before .before .before .before .before .args in
+    ap (stepsIn (now (a .forms)) (now (a .rises))) (eqb-true _ _ same)
+
 verdict-over-requires : tie.Need-verdict-over-requires
 verdict-over-requires c κs =
     let t = c .before .before .before .before .before .before .before in
-    rw (c .before .before .before .before .before .before .form-at .ensures, c .before .before .before .before .before .form-at2 .ensures, c .before .before .before .before .form-at3 .ensures, c .before .before .before .rises-at .ensures, c .before .before .rises-at2 .ensures, c .before .rises-at3 .ensures) (ready t .lent (stated t) (so t), t .before .before .before .before .before .before .before .before .pre .3)
+    rw (c .before .before .before .before .before .before .form-at .ensures, c .before .before .before .before .before .form-at2 .ensures, c .before .before .before .before .form-at3 .ensures, c .before .before .before .rises-at .ensures, c .before .before .rises-at2 .ensures, c .before .rises-at3 .ensures) (ready t .lent (stated t) (so t), one t, t .before .before .before .before .before .before .before .before .pre .3)
 
 record-of-requires-2 : tie.Need-record-of-requires-2
 record-of-requires-2 c κs = search needs
