@@ -17,7 +17,8 @@ use verdict::Verdict;
 use verdict::record_of;
 use verdict::verdict_over;
 
-// The record on the claim whose field is at `place`, in a book of so many curves.
+// The record on the claim whose field is at `place`, in a book of so many curves. Left and right are said to be the
+// same where their numbers are: no curve is compared with another.
 pub(crate) fn record_at(
     book: &[u8],
     place: usize,

@@ -8,11 +8,9 @@
 --     conv-attained    some split gives it
 --     conv-above       so a number that no split is below is not above it
 --     conv-comm, conv-assoc
---     conv-half        of a function with itself the ticks u up to n/2, rounded down, are enough
-use Prim.Native.Nat.{ℕ, _+_, _-_, _/_, _≤_}
-use mathlib.Core.Path.{_≡_, ap, subst}
+use Prim.Native.Nat.{ℕ, _+_, _-_, _≤_}
+use mathlib.Core.Path.{_≡_, subst}
 use native.Mathlib.Omega.{arith}
-use native.Mathlib.Decide.{decLe}
 use native.Mathlib.Nat.{le-antisymm, add-sub-of-le, add-sub-cancel-left}
 use Rattle.minplus.specs.Search.{best, least, least-lower, least-attained}
 
@@ -56,20 +54,3 @@ conv-assoc f g h n =
     (conv-above (conv f g) h n (conv f (conv g h) n) (λ u v e.
     let t = conv-attained f g u in
     omega (arith, conv-below f (conv g h) n (t .0) (t .1 + v) (omega (arith, t .2)), conv-lower g h (t .1) v, t .3)))
-
--- a split and its mirror give the same sum
-pub conv-half : (f : ℕ → ℕ) (n : ℕ) → conv f f n ≡ least (λ u. f u + f (n - u)) (n / 2)
-conv-half f n = le-antisymm over (conv-above f f n _ (λ u v e. elim (decLe u v) [
-  | yes le ↦ under u v e le
-  | no gt ↦ omega (arith, under v u (omega arith) (omega (arith, gt)))
-]))
-  where
-    over : conv f f n ≤ least (λ u. f u + f (n - u)) (n / 2)
-    over =
-        let t = least-attained (λ u. f u + f (n - u)) (n / 2) in
-        omega (arith, conv-below f f n (t .0) (n - t .0) (omega (arith, t .1)), t .2)
-
-    under : (u v : ℕ) → u + v ≡ n → u ≤ v → least (λ u. f u + f (n - u)) (n / 2) ≤ f u + f v
-    under u v e le =
-        let rest : n - u ≡ v = omega arith in
-        omega (arith, least-lower (λ u. f u + f (n - u)) (n / 2) u (omega arith), ap f rest)

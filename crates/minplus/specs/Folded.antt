@@ -14,10 +14,11 @@
 --     conv-folded                 from the first tick K with v = T within r(K) on: the lesser of the least over v < T,
 --                                 and of the least over one period of g carried on
 --     conv-early                  before K the first of these is all
---     reached-half, first-half    of a function with itself r(n) = n/2, rounded down, is enough, and 2*T is the first
---                                 tick with v = T
---     from-half, half-gains       there the least over half of the splits is that over all of them once the mirrors of
---                                 these are splits from low on, so that it gains from T + low + k on as well
+--     from-half                   of a function with itself the least over v up to n/2, rounded down, is that over all
+--                                 of low to low + k, once the mirrors of these are from low on
+--     conv-half                   of all splits it always is
+--     reached-half, first-half    so r(n) = n/2 is enough there, and 2*T is the first tick with v = T
+--     half-gains                  and with it the least gains from T + low + k on as well
 use Prim.Native.Nat.{ℕ, zero, suc, _+_, _-_, _*_, _/_, _%_, _≤_, _<_, min}
 use mathlib.Core.Path.{_≡_, refl, sym, ap, ap₂, _∙_, subst}
 use mathlib.Core.Logic.{_↔_}
@@ -25,7 +26,7 @@ use native.Mathlib.Omega.{arith}
 use native.Mathlib.Nat.{le-antisymm, le-refl, mod-lt, mod-add-div', div-eq-of-lt, div-eq-sub-div, zero-div, le-div-iff-mul-le}
 use native.Mathlib.Decide.{decLe}
 use Rattle.minplus.specs.Search.{best, best-same, least, least-lower, least-attained}
-use Rattle.minplus.specs.Conv.{conv, conv-below, conv-attained, conv-half}
+use Rattle.minplus.specs.Conv.{conv, conv-below, conv-attained}
 use Rattle.minplus.specs.Gains.{Gains, gains-many}
 
 unfoldable pub leastFrom : (f g : ℕ → ℕ) (low k r n : ℕ) → ℕ
@@ -247,18 +248,6 @@ conv-folded {f} {g} {r} {T} {d} {c} {K} G positive R first n le = le-antisymm ov
 
 -- ---- a function with itself
 
-pub reached-half : (f : ℕ → ℕ) → Reached f f (λ n. n / 2)
-reached-half f = record {
-  inside = λ n. omega arith;
-  attained = λ n.
-      let t = least-attained (λ u. f u + f (n - u)) (n / 2) in
-      (n - t .0, t .0, omega (arith, t .1), t .1, omega (arith, conv-half f n, t .2));
-  smaller = λ u v w le within. omega arith;
-}
-
-pub first-half : (T m : ℕ) → (2 * T ≤ m) ↔ (T ≤ m / 2)
-first-half T m = (λ le. omega arith, λ le. omega arith)
-
 -- of a split past the half the mirror is tried, if it is from low on
 pub from-half : (f : ℕ → ℕ) (low k n : ℕ) → low + (low + k) ≤ n → leastFrom f f low k (n / 2) n ≡ leastFrom f f low k n n
 from-half f low k n le = le-antisymm over under
@@ -280,6 +269,35 @@ from-half f low k n le = le-antisymm over under
     under =
         let t = from-attained f f low k (n / 2) n (omega arith) (omega arith) in
         omega (arith, from-below f f low k n n (t .0) (t .1) (t .2) (t .3) (t .4) (omega (arith, t .2)), t .5)
+
+-- of all splits
+pub conv-half : (f : ℕ → ℕ) (n : ℕ) → conv f f n ≡ least (λ u. f u + f (n - u)) (n / 2)
+unfolding leastFrom
+conv-half f n =
+    let up-to : min (n / 2 - 0) n ≡ n / 2 = omega arith in
+    conv-early {T = n + 1} (reached-all f f) n (omega arith)
+    ∙ ap (λ (k : ℕ). leastFrom f f 0 k n n) one-more
+    ∙ sym (from-half f 0 n n (omega arith))
+    ∙ ap (least (λ i. f (n - (0 + i)) + f (0 + i))) up-to
+    ∙ best-same min _ _ (n / 2) (λ u le. omega (arith, ap f (from-none u), ap (λ (x : ℕ). f (n - x)) (from-none u)))
+  where
+    one-more : n + 1 - 1 ≡ n
+    one-more = omega arith
+
+    from-none : (u : ℕ) → 0 + u ≡ u
+    from-none u = omega arith
+
+pub reached-half : (f : ℕ → ℕ) → Reached f f (λ n. n / 2)
+reached-half f = record {
+  inside = λ n. omega arith;
+  attained = λ n.
+      let t = least-attained (λ u. f u + f (n - u)) (n / 2) in
+      (n - t .0, t .0, omega (arith, t .1), t .1, omega (arith, conv-half f n, t .2));
+  smaller = λ u v w le within. omega arith;
+}
+
+pub first-half : (T m : ℕ) → (2 * T ≤ m) ↔ (T ≤ m / 2)
+first-half T m = (λ le. omega arith, λ le. omega arith)
 
 pub half-gains : {f : ℕ → ℕ} {T d c : ℕ} → Gains f T d c → (low k : ℕ) → low ≤ T → Gains (λ n. leastFrom f f low k (n / 2) n) (T + (low + k)) d c
 half-gains {f} {T} {d} {c} G low k soon = record {
