@@ -6,6 +6,7 @@ use curve::Named;
 use curve::Ticks;
 use curve::values::value_at;
 use horizon::Horizon;
+use horizon::Measured;
 use horizon::horizon_of;
 use verdict::Judged;
 use verdict::record_of;
@@ -22,10 +23,19 @@ fn ill_formed() {
     io::write_all(1, b" ill formed\n");
 }
 
+fn reached(horizon: Horizon) {
+    io::write_all(1, b" horizon");
+    match horizon {
+        Horizon::At(k) => field(k.0 as u64),
+        Horizon::Above => {
+            io::write_all(1, b" above");
+        }
+    }
+}
+
 fn judge(claim: Claim, f: Curve, g: Curve, h: Curve) {
-    if let Horizon::At(k) = horizon_of(claim, f, g, h) {
-        io::write_all(1, b" horizon");
-        field(k);
+    if let Measured::Horizon(horizon) = horizon_of(claim, f, g, h) {
+        reached(horizon);
     }
     match verdict_on(claim, f, g, h) {
         Judged::IllFormed => {

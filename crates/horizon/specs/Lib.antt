@@ -1,2 +1,3 @@
 -- The horizon as the code reaches it.
+pub mod Capped
 pub mod Reach

@@ -4,23 +4,24 @@
 --     signedOf                  a struct of two numbers as a signed number
 --     Limited                   a curve's numbers keep their limits, as those of a well-formed one do (limited)
 --     Raisable, Extent, Small, Ready, Crossable      what is known where it is computed, so that products fit: no
---                                          extreme is above large, no N above far
+--                                          extreme is above large, no sum of products above far
 --     raised-fits, raisable, small-more, choice-fits, begun-fits, above-fits, below-fits, faster-fits     that they do
---     evenRank, crossingN       the rank with equal rates, and N where f is the slower curve
+--     evenRank, crossingN       the rank with equal rates from D, and N where f is the slower curve
 --     rates-left, rates-right, rates-even     by the three ways in which two rates can stand; convolution-none,
 --                                             convolution-some: by T
---     rank-is                   R is the greater of the two
---     even-numbers, horizon-numbers     the first asks a curve's numbers alone, and so does the horizon of the claimed
---                                       one
+--     rank-is                   R is the greater of the two, with D itself
+--     result-capped, result-far     K+P, from a D and a P that stop counting, and where N is above the limit
+--     horizon-numbers           of the claimed curve the horizon asks the numbers alone
 --     horizonAnswer             the answer: no horizon for a claim that is not well formed (horizon-none), else its
---                               horizon (horizon-at)
+--                               horizon as far as there is one (horizon-some)
 use Prim.Native.Nat.{ℕ, suc, _+_, _-_, _*_, _≤_, _<_, min, max}
-use mathlib.Core.Path.{_≡_, refl, sym, ap}
+use mathlib.Core.Path.{_≡_, refl, sym, ap, _∙_}
 use mathlib.Core.Bool.{Bool, true, false}
 use mathlib.Core.List.{List}
 use native.Mathlib.Omega.{arith}
 use native.Mathlib.Nat.{max-comm, mul-le-mul, le-of-lt}
 use Rattle.minplus.specs.Curve as C
+use Rattle.minplus.specs.Divisor.{lcm}
 use Rattle.minplus.specs.Ranks.{common-comm, by-rates}
 use Rattle.minplus.specs.Claim as M
 use Rattle.minplus.specs.Horizon as H
@@ -32,8 +33,9 @@ use Rattle.curve.specs.Steps.{Steps, Lent, curveFrom}
 use Rattle.curve.specs.Held.{heldAs, ratesOf}
 use Rattle.curve.specs.Claimed.{claimOver}
 use Rattle.horizon.specs.declared.crossing.Signed.{Signed}
-use Rattle.horizon.specs.declared.Horizon.{Horizon}
-use Rattle.horizon.specs.declared.Horizon.the-variants.{At, IllFormed}
+use Rattle.horizon.specs.declared.Measured.{Measured}
+use Rattle.horizon.specs.declared.Measured.the-variants as Measured
+use Rattle.horizon.specs.Capped.{capped, capped-twice, horizonFrom, max-capped, plus-capped}
 
 abbrev pub choice : Bool → ℕ → ℕ → ℕ
 choice true = max
@@ -71,7 +73,7 @@ pub record Small (bound : ℕ) (s : Signed) : Type 0 where
 abbrev pub large : ℕ
 large = 2_199_023_255_552
 
--- 2^52: no N is above it
+-- 2^52: no sum of their products with periods is above it, and so no N
 abbrev pub far : ℕ
 far = 4_503_599_627_370_496
 
@@ -89,11 +91,10 @@ pub record Crossable (f g : C.Curve) (a b : Signed) : Type 0 where
   pub a-small : Small (large + large) a
   pub b-small : Small (large + large) b
 
-unfoldable pub evenRank : M.Operation → C.Curve → C.Curve → ℕ
-unfolding H.commonPeriod
-evenRank M.sum f g = max (f .rank) (g .rank)
-evenRank M.minimum f g = max (f .rank) (g .rank)
-evenRank M.convolution f g = f .rank + g .rank + H.commonPeriod f g
+unfoldable pub evenRank : M.Operation → (T T′ D : ℕ) → ℕ
+evenRank M.sum T T′ D = max T T′
+evenRank M.minimum T T′ D = max T T′
+evenRank M.convolution T T′ D = T + T′ + D
 
 unfoldable pub crossingN : M.Operation → C.Curve → C.Curve → ℕ
 unfolding H.minimumN H.convolutionN
@@ -101,9 +102,9 @@ crossingN M.sum f g = 0
 crossingN M.minimum f g = H.minimumN f g
 crossingN M.convolution f g = H.convolutionN f g
 
-unfoldable pub horizonAnswer : M.Claim → Horizon
-unfolding M.wellFormedClaim H.horizon
-horizonAnswer c = elim (M.wellFormedClaim c) [ true ↦ At (H.horizon c) | false ↦ IllFormed ]
+unfoldable pub horizonAnswer : M.Claim → Measured
+unfolding M.wellFormedClaim H.horizon horizonFrom
+horizonAnswer c = elim (M.wellFormedClaim c) [ true ↦ Measured.Horizon (horizonFrom (H.horizon c)) | false ↦ Measured.IllFormed ]
 
 -- ---- laws
 
@@ -149,10 +150,10 @@ module _ {f g : C.Curve} {a b : Signed} (at : Crossable f g a b) where
   e-fits : g .period ≤ C.maxListed
   e-fits = at .right .period-fits
 
-  pub above-fits : g .period * a .plus + f .period * b .minus ≤ far - large
+  pub above-fits : g .period * a .plus + f .period * b .minus ≤ far
   above-fits = omega (arith, mul-le-mul e-fits (at .a-small .plus-fits), mul-le-mul d-fits (at .b-small .minus-fits))
 
-  pub below-fits : f .period * b .plus + g .period * a .minus ≤ far - large
+  pub below-fits : f .period * b .plus + g .period * a .minus ≤ far
   below-fits = omega (arith, mul-le-mul d-fits (at .b-small .plus-fits), mul-le-mul e-fits (at .a-small .minus-fits))
 
   pub faster-fits : g .increment * f .period + f .increment * g .period ≤ large
@@ -172,7 +173,11 @@ module _ (f g : C.Curve) (equal : ℕ) (N : C.Curve → C.Curve → ℕ) where
   unfolding H.byRates
   rates-even e d = rw (e, d, H.byRates)
 
-even-comm : (op : M.Operation) (f g : C.Curve) → evenRank op f g ≡ evenRank op g f
+-- with D itself
+abbrev evenBy : M.Operation → C.Curve → C.Curve → ℕ
+evenBy op f g = evenRank op (f .rank) (g .rank) (H.commonPeriod f g)
+
+even-comm : (op : M.Operation) (f g : C.Curve) → evenBy op f g ≡ evenBy op g f
 unfolding evenRank
 even-comm M.sum f g = max-comm (f .rank) (g .rank)
 even-comm M.minimum f g = max-comm (f .rank) (g .rank)
@@ -191,11 +196,11 @@ rates-max f g E N comm = go (H.slower f g) (H.slower g f)
     go false true = ap (λ (e : ℕ). max e (N g f)) (sym comm)
     go false false = omega arith
 
-pub rank-is : (op : M.Operation) (f g : C.Curve) → H.rankOf op f g ≡ max (evenRank op f g) (H.byRates f g 0 (crossingN op))
+pub rank-is : (op : M.Operation) (f g : C.Curve) → H.rankOf op f g ≡ max (evenRank op (f .rank) (g .rank) (H.commonPeriod f g)) (H.byRates f g 0 (crossingN op))
 unfolding H.rankOf evenRank crossingN
 rank-is M.sum f g = omega (arith, by-rates (λ N. N ≡ 0) f g 0 (crossingN M.sum) (λ _. refl) (λ _. refl) (λ _. refl))
-rank-is M.minimum f g = rates-max f g (evenRank M.minimum) H.minimumN (even-comm M.minimum f g)
-rank-is M.convolution f g = rates-max f g (evenRank M.convolution) H.convolutionN (even-comm M.convolution f g)
+rank-is M.minimum f g = rates-max f g (evenBy M.minimum) H.minimumN (even-comm M.minimum f g)
+rank-is M.convolution f g = rates-max f g (evenBy M.convolution) H.convolutionN (even-comm M.convolution f g)
 
 pub convolution-none : (f g : C.Curve) → f .rank ≡ 0 → H.convolutionN f g ≡ 0
 unfolding H.convolutionN
@@ -206,12 +211,27 @@ pub convolution-some : (f g : C.Curve) → 1 ≤ f .rank
 unfolding H.convolutionN
 convolution-some f g some = let e : f .rank ≡ suc (f .rank - 1) = omega arith in rw e
 
-pub even-numbers : (op : M.Operation) (f g : Form) (l m : List ℕ)
-    → evenRank op (ratesOf f) (ratesOf g) ≡ evenRank op (curveFrom (heldAs f l)) (curveFrom (heldAs g m))
+-- the rank and the horizon of kinds 1 to 3 from a D and a P that stop counting
+even-capped : (op : M.Operation) (T T′ D : ℕ) → capped (evenRank op T T′ (capped D)) ≡ capped (evenRank op T T′ D)
 unfolding evenRank
-even-numbers M.sum f g l m = refl
-even-numbers M.minimum f g l m = refl
-even-numbers M.convolution f g l m = refl
+even-capped M.sum T T′ D = refl
+even-capped M.minimum T T′ D = refl
+even-capped M.convolution T T′ D = omega arith
+
+pub result-capped : (op : M.Operation) (f g h : C.Curve) → let D : ℕ = H.commonPeriod f g in
+    capped (max (max (evenRank op (f .rank) (g .rank) (capped D)) (H.byRates f g 0 (crossingN op))) (h .rank) + capped (lcm (capped D) (h .period)))
+    ≡ capped (H.horizon (M.equals op f g h))
+unfolding H.horizon H.lastRank H.fullPeriod H.commonPeriod
+result-capped op f g h =
+    let D : ℕ = H.commonPeriod f g in
+    let rank = max-capped _ _ (H.byRates f g 0 (crossingN op)) (even-capped op (f .rank) (g .rank) D) ∙ ap capped (sym (rank-is op f g)) in
+    let period : capped (capped (lcm (capped D) (h .period))) ≡ capped (lcm D (h .period)) = omega (arith, capped-twice (f .period) (g .period) (h .period)) in
+    plus-capped _ _ _ _ (max-capped _ _ (h .rank) rank) period
+
+-- where N is above the limit, so is the horizon
+pub result-far : (op : M.Operation) (f g h : C.Curve) → H.maxHorizon < H.byRates f g 0 (crossingN op) → H.maxHorizon < H.horizon (M.equals op f g h)
+unfolding H.horizon H.lastRank
+result-far op f g h lt = omega (arith, rank-is op f g)
 
 -- of the claimed curve the numbers are enough
 pub horizon-numbers : (c : code.Claim) (f g : C.Curve) (h : Form) (l : List ℕ)
@@ -223,10 +243,10 @@ horizon-numbers (Exactly x) f g h l = refl
 
 -- the answer from what holds
 module _ (c : M.Claim) where
-  pub horizon-none : M.wellFormedClaim c ≡ false → horizonAnswer c ≡ IllFormed
+  pub horizon-none : M.wellFormedClaim c ≡ false → horizonAnswer c ≡ Measured.IllFormed
   unfolding horizonAnswer
   horizon-none e = rw (e, horizonAnswer)
 
-  pub horizon-at : M.wellFormedClaim c ≡ true → horizonAnswer c ≡ At (H.horizon c)
+  pub horizon-some : M.wellFormedClaim c ≡ true → horizonAnswer c ≡ Measured.Horizon (horizonFrom (H.horizon c))
   unfolding horizonAnswer
-  horizon-at e = rw (e, horizonAnswer)
+  horizon-some e = rw (e, horizonAnswer)

@@ -1,12 +1,13 @@
-// The crossing N: from where on the slower curve decides.
+// The crossing N: from where on the slower curve decides. With two rates that nearly agree it needs more than 32 bits,
+// and so do the products of A and B with a period that it is made of. Nothing else on the way to a horizon does.
 ghost use mathlib.Core.Path.{_≡_};
-ghost use Prim.Native.Nat.{_+_, _-_, _*_, _≤_, max};
+ghost use Prim.Native.Nat.{_+_, _-_, _*_, _≤_};
 ghost use Rattle.minplus.specs.Curve.{value};
 ghost use Rattle.minplus.specs.Horizon as Def;
 ghost use Rattle.curve.specs.Steps.{Lent, curveFrom};
 ghost use Rattle.curve.specs.Held.{heldAs, ratesOf};
 ghost use Rattle.curve.specs.Claimed.{operationOf};
-ghost use Rattle.horizon.specs.Reach.{choice, signedOf, Limited, Raisable, Extent, Small, Ready, Crossable, large, far, crossingN};
+ghost use Rattle.horizon.specs.Reach.{choice, signedOf, Limited, Raisable, Extent, Small, Ready, Crossable, large, crossingN};
 use curve::Form;
 use curve::Operation;
 use curve::Ticks;
@@ -20,12 +21,6 @@ struct Signed {
     minus: u64,
 }
 
-pub(crate) fn larger(a: u64, b: u64) -> u64
-    ensures { λ r. ⌜ r ≡ max a b ⌝ }
-{
-    if a < b { b } else { a }
-}
-
 // What a has above b: the larger of 0 and the difference.
 fn excess(a: u64, b: u64) -> u64
     ensures { λ r. ⌜ r ≡ a - b ⌝ }
@@ -37,7 +32,7 @@ fn chosen(greatest: bool, a: u64, b: u64) -> u64
     ensures { λ r. ⌜ r ≡ choice greatest a b ⌝ }
 {
     if greatest {
-        return larger(a, b);
+        return if a < b { b } else { a };
     }
     if a < b { a } else { b }
 }
@@ -93,7 +88,6 @@ fn turning(greatest: bool, f: Form, left: &[u32]) -> Signed
 fn crossing(f: Form, g: Form, a: Signed, b: Signed) -> u64
     requires { ⌜ Crossable (ratesOf f) (ratesOf g) a b ⌝ }
     ensures { λ r. ⌜ r ≡ Def.crossing (ratesOf f) (ratesOf g) (signedOf a) (signedOf b) ⌝ }
-    ensures { λ r. ⌜ r ≤ far ⌝ }
 {
     let d = f.period.0 as u64;
     let e = g.period.0 as u64;
@@ -150,7 +144,6 @@ fn earliest(f: Form, left: &[u32], g: Form) -> Signed
 fn convolution_n(f: Form, left: &[u32], g: Form, right: &[u32]) -> u64
     requires { ⌜ Ready (heldAs f (now left)) (heldAs g (now right)) ⌝ }
     ensures { λ r. ⌜ r ≡ Def.convolutionN (curveFrom (heldAs f (now (left .entry)))) (curveFrom (heldAs g (now (right .entry)))) ⌝ }
-    ensures { λ r. ⌜ r ≤ far ⌝ }
 {
     if f.rank.0 == 0 {
         return 0;
@@ -163,7 +156,6 @@ fn convolution_n(f: Form, left: &[u32], g: Form, right: &[u32]) -> u64
 fn crossing_n(operation: Operation, f: Form, left: &[u32], g: Form, right: &[u32]) -> u64
     requires { ⌜ Ready (heldAs f (now left)) (heldAs g (now right)) ⌝ }
     ensures { λ r. ⌜ r ≡ crossingN (operationOf operation) (curveFrom (heldAs f (now (left .entry)))) (curveFrom (heldAs g (now (right .entry)))) ⌝ }
-    ensures { λ r. ⌜ r ≤ far ⌝ }
 {
     match operation {
         Operation::Sum => 0,
@@ -176,7 +168,6 @@ fn crossing_n(operation: Operation, f: Form, left: &[u32], g: Form, right: &[u32
 pub(crate) fn n_by_rates(operation: Operation, f: Form, left: &[u32], g: Form, right: &[u32]) -> u64
     requires { ⌜ Lent (heldAs f (now left)) × Lent (heldAs g (now right)) ⌝ }
     ensures { λ r. ⌜ r ≡ Def.byRates (curveFrom (heldAs f (now (left .entry)))) (curveFrom (heldAs g (now (right .entry)))) 0 (crossingN (operationOf operation)) ⌝ }
-    ensures { λ r. ⌜ r ≤ far ⌝ }
 {
     if slower(f, g) {
         return crossing_n(operation, f, left, g, right);

@@ -1,6 +1,8 @@
-// The greatest common divisor by Euclid's rule, and the least common multiple from it.
+// The greatest common divisor by Euclid's rule, and from it the least common multiple, which stops counting.
 ghost use mathlib.Core.Path.{_≡_};
 ghost use Rattle.minplus.specs.Divisor.{gcd, lcm};
+ghost use Rattle.horizon.specs.Capped.{capped};
+use crate::LIMIT;
 
 pub(crate) fn common_divisor(a: u32, b: u32) -> u32
     ensures { λ r. ⌜ r ≡ gcd a b ⌝ }
@@ -8,13 +10,18 @@ pub(crate) fn common_divisor(a: u32, b: u32) -> u32
     if b == 0 { a } else { common_divisor(b, a % b) }
 }
 
-// The divisor is 0 where both numbers are, and so is their multiple.
-pub(crate) fn common_multiple(a: u32, b: u32) -> u64
-    ensures { λ r. ⌜ r ≡ lcm a b ⌝ }
+// 4,097 for any multiple above 4,096: it is not multiplied out, so that a small word is enough. The only multiple of 0
+// is 0, and past that the divisor is not 0.
+pub(crate) fn common_multiple(a: u32, b: u32) -> u32
+    ensures { λ r. ⌜ r ≡ capped (lcm a b) ⌝ }
 {
-    let divisor = common_divisor(a, b);
-    if divisor == 0 {
+    if b == 0 {
         return 0;
     }
-    (a / divisor) as u64 * b as u64
+    let times = a / common_divisor(a, b);
+    if times <= LIMIT / b {
+        times * b
+    } else {
+        LIMIT + 1
+    }
 }

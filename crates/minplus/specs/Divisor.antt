@@ -7,12 +7,15 @@
 --     gcd-left, gcd-right, gcd-greatest     it divides both, and each common divisor divides it
 --     lcm a b          a / gcd a b * b
 --     lcm-left, lcm-right, lcm-least        both divide it, and it divides each common multiple; lcm-comm
---     lcm-positive, lcm-at-most, lcm-none     the bounds that code needs, and the one case that Euclid's rule leaves at
---                                             0
-use Prim.Native.Nat.{ℕ, zero, suc, _-_, _*_, _/_, _%_, _≤_, _<_, _∣_}
+--     lcm-positive, lcm-of-0     it is 0 only where a number is
+--     lcm-min          cut off at any number, it is the same from a first number that is cut off there too
+use Prim.Native.Nat.{ℕ, zero, suc, _-_, _*_, _/_, _%_, _≤_, _<_, _∣_, min}
 use mathlib.Core.Path.{_≡_, refl, sym, ap, _∙_, subst}
+use mathlib.Core.Bool.{Bool, true, false}
+use lib.Dec.{ltb}
+use borrow.Author.Tests.{ltb-true, ltb-false}
 use native.Mathlib.Omega.{arith}
-use native.Mathlib.Nat.{mod-lt, dvd-refl, dvd-zero, dvd-mod-iff, dvd-mul-left, dvd-mul-right, dvd-sub, dvd-antisymm, div-mul-cancel, pos-of-dvd-of-pos, dvd-mul-left-of-dvd, div-add-mod', dvd-of-mul-dvd-mul-left, mul-comm, mul-dvd-mul-left, mul-pos, one-mul, eq-zero-of-zero-dvd, mul-dvd-mul-right, div-le-self, div-zero, mul-le-mul-right}
+use native.Mathlib.Nat.{mod-lt, dvd-refl, dvd-zero, dvd-mod-iff, dvd-mul-left, dvd-mul-right, dvd-sub, dvd-antisymm, div-mul-cancel, pos-of-dvd-of-pos, dvd-mul-left-of-dvd, div-add-mod', dvd-of-mul-dvd-mul-left, mul-comm, mul-dvd-mul-left, mul-pos, one-mul, eq-zero-of-zero-dvd, mul-dvd-mul-right, le-of-dvd}
 
 -- Euclid's rule with a bound on its steps: the second number falls, so that many steps and one more are enough
 gcdBy : ℕ → ℕ → ℕ → ℕ
@@ -117,11 +120,26 @@ lcm-least m (suc a) b p q =
 pub lcm-positive : (a b : ℕ) → 0 < a → 0 < b → 0 < lcm a b
 lcm-positive a b h i = pos-of-dvd-of-pos (lcm-least (a * b) a b (dvd-mul-right a b) (dvd-mul-left b a)) (mul-pos h i)
 
-pub lcm-at-most : (a b : ℕ) → lcm a b ≤ a * b
+-- also of 0 and 0, where Euclid's rule has no divisor to give
+pub lcm-of-0 : (a : ℕ) → lcm a 0 ≡ 0
 unfolding lcm
-lcm-at-most a b = mul-le-mul-right b (div-le-self a (gcd a b))
+lcm-of-0 a = omega arith
 
--- where both numbers are 0
-pub lcm-none : (a b : ℕ) → gcd a b ≡ 0 → lcm a b ≡ 0
-unfolding lcm
-lcm-none a b e = rw (e, div-zero a) (omega arith)
+-- where a is above k, both multiples are at least k, unless b is 0
+pub lcm-min : (k a b : ℕ) → min (lcm (min a k) b) k ≡ min (lcm a b) k
+lcm-min k a zero = rw (lcm-of-0 (min a k), lcm-of-0 a)
+lcm-min zero a (suc b) = omega arith
+lcm-min (suc k) a (suc b) = go (ltb (suc k) a) refl
+  where
+    at-least : (x : ℕ) → 0 < x → x ≤ lcm x (suc b)
+    at-least x some = le-of-dvd (lcm-positive x (suc b) some (omega arith)) (lcm-left x (suc b))
+
+    go : (above : Bool) → ltb (suc k) a ≡ above → min (lcm (min a (suc k)) (suc b)) (suc k) ≡ min (lcm a (suc b)) (suc k)
+    go true e =
+        let lt : suc k < a = ltb-true (suc k) a e in
+        let cut : min a (suc k) ≡ suc k = omega arith in
+        rw cut (omega (arith, at-least (suc k) (omega arith), at-least a (omega arith)))
+    go false e =
+        let le : a ≤ suc k = ltb-false (suc k) a e in
+        let whole : min a (suc k) ≡ a = omega arith in
+        rw whole

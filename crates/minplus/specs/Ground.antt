@@ -258,6 +258,10 @@ table =
     ∷ formed vendor is truth false
     -- a horizon of some sixteen million: no tick is tried
     ∷ verdictOf (equals convolution (flat 0 256 0) (flat 0 255 0) (flat 0 253 0)) is judged notJudged
+    -- D and P are counted to their end here, though code stops at 4,097; and N, which needs 37 bits
+    ∷ horizonOf (equals convolution (flat 0 256 0) (flat 0 255 0) (flat 0 253 0)) is number 16_581_120
+    ∷ horizonOf (bounds delay atMost (flat 0 256 0) (flat 0 255 0) 0) is number 65_280
+    ∷ horizonOf (equals minimum (curve 0 256 999_937 (replicate 256 1_000_000)) (curve 0 255 996_031 (replicate 255 0)) (flat 0 1 0)) is number 130_045_985_024
     -- the limits of a curve, each at its edge and one beyond; the first and the last pair of listed values are looked
     -- at too, and then the seam
     ∷ formed (flat 0 256 1_000_000) is truth true

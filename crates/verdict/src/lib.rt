@@ -17,6 +17,7 @@ use curve::Operation;
 use curve::Ticks;
 use curve::Units;
 use curve::rates::slower;
+use horizon::Horizon;
 use horizon::horizon_over;
 use limits::well_formed_claim;
 use search::Found;
@@ -139,11 +140,10 @@ pub fn verdict_over(
     requires { ⌜ LentClaim claim (heldAs f (now left)) (heldAs g (now right)) (heldAs h (now claimed)) × (itself ≡ true → heldAs f (now left) ≡ heldAs g (now right)) × (workRoom ≤ length (now work)) ⌝ }
     ensures { λ r. ⌜ verdictOf r ≡ verdict (claimOver claim (curveFrom (heldAs f (now (left .entry)))) (curveFrom (heldAs g (now (right .entry)))) (curveFrom (heldAs h (now (claimed .entry))))) ⌝ }
 {
-    let horizon = horizon_over(claim, f, left, g, right, h);
-    if (Claim::MAX_HORIZON as u64) < horizon {
+    let Horizon::At(horizon) = horizon_over(claim, f, left, g, right, h) else {
         return Verdict::NotJudged;
-    }
-    let near = horizon as usize;
+    };
+    let near = horizon.0 as usize;
     in_order(claim, itself, f, left, g, right, h, claimed, near, work)
 }
 

@@ -1,12 +1,12 @@
-use mathlib.Core.Path.{_≡_, sym, ap, _∙_}
+use mathlib.Core.Path.{sym, ap, _∙_}
 use native.Mathlib.Omega.{arith}
 use borrow.Author.Tests.{not-true, not-false}
 use Rattle.minplus.specs.Claim.{Claim, WellFormedClaim, well-formed-claim}
-use Rattle.minplus.specs.Horizon.{horizon}
-use Rattle.horizon.specs.declared.Horizon.the-variants.{At}
+use Rattle.horizon.specs.declared.Measured.the-variants as Measured
 use Rattle.curve.specs.Held.{curveOf}
 use Rattle.curve.specs.Claimed.{claimOf, two-well}
-use Rattle.horizon.specs.Reach.{horizon-none, horizon-at, horizon-numbers}
+use Rattle.horizon.specs.Capped.{horizonFrom}
+use Rattle.horizon.specs.Reach.{horizon-none, horizon-some, horizon-numbers}
 use borrow.Author.Needs.{needs}
 use Rattle.horizon.proofs.horizon_of.Statement.{statement}
 use Rattle.horizon.proofs.horizon_of.Tie as tie
@@ -36,8 +36,8 @@ returns-2 : tie.Need-returns-2
 returns-2 c =
     let a = c .before .before .before .before .before .before .before .before .before .before .before .args in
     let past = c .before .before .before .before .before .before .before .before .before in
-    ap At (c .horizon-over .ensures ∙ horizon-numbers (a .claim) (curveOf (a .t2)) (curveOf (a .t3)) (a .h .form) (a .h .rises))
-    ∙ sym (horizon-at (claim past) (well-formed-claim (claim past) .1 (well past)))
+    ap Measured.Horizon (c .horizon-over .ensures ∙ ap horizonFrom (horizon-numbers (a .claim) (curveOf (a .t2)) (curveOf (a .t3)) (a .h .form) (a .h .rises)))
+    ∙ sym (horizon-some (claim past) (well-formed-claim (claim past) .1 (well past)))
 
 pub horizon-of-spec : {M : Type 1} → statement M
 horizon-of-spec =

@@ -1,6 +1,5 @@
-use borrow.Author.Needs.{needs}
 use Rattle.minplus.specs.Horizon.{commonPeriod, horizon}
-use Rattle.horizon.specs.Reach.{limited}
+use borrow.Author.Needs.{needs}
 use Rattle.horizon.proofs.horizon_over.Statement.{statement}
 use Rattle.horizon.proofs.horizon_over.Tie as tie
 
@@ -14,13 +13,13 @@ enum-told : tie.Need-enum-told
 enum-told c = search needs
 
 bound-horizon-requires : tie.Need-bound-horizon-requires
-bound-horizon-requires c κs = let pre = c .before .before .before .before .pre in (limited (pre .0), limited (pre .1))
+bound-horizon-requires c κs = search needs
 
 enum-told-2 : tie.Need-enum-told-2
 enum-told-2 c = search needs
 
 bound-horizon-requires-2 : tie.Need-bound-horizon-requires-2
-bound-horizon-requires-2 c κs = let pre = c .before .before .before .before .pre in (limited (pre .0), limited (pre .1))
+bound-horizon-requires-2 c κs = search needs
 
 returns : tie.Need-returns
 returns c = rw (c .before .before .claim .given .1) (c .result-horizon .ensures)

@@ -12,7 +12,7 @@ use Rattle.horizon.proofs.crossing.convolution_n.Tie as tie
 returns : tie.Need-returns
 returns c =
     let a = c .before .before .before .before .args in
-    (sym (convolution-none (curveFrom (heldAs (a .f) (now (a .left)))) (curveFrom (heldAs (a .g) (now (a .right)))) (c .if1 .taken)), omega arith)
+    sym (convolution-none (curveFrom (heldAs (a .f) (now (a .left)))) (curveFrom (heldAs (a .g) (now (a .right)))) (c .if1 .taken))
 
 turning-requires : tie.Need-turning-requires
 turning-requires c κs = search needs
@@ -51,7 +51,7 @@ returns-2 c =
     let g = curveFrom (heldAs (a .g) (now (a .right))) in
     let A = c .before .before .before .before .increased .ensures .0 ∙ ap₂ _increasedBy_ (c .before .before .before .before .before .before .turning .ensures .0) (c .before .before .before .before .before .begun .ensures .0) in
     let B = c .before .increased2 .ensures .0 ∙ ap₂ _increasedBy_ (c .before .before .before .turning2 .ensures .0) (c .before .before .earliest .ensures .0) in
-    (c .crossing .ensures .0 ∙ ap₂ (crossing f g) A B ∙ sym (convolution-some f g (omega arith)), c .crossing .ensures .1)
+    c .crossing .ensures ∙ ap₂ (crossing f g) A B ∙ sym (convolution-some f g (omega arith))
 
 pub convolution-n-spec : {M : Type 1} → statement M
 convolution-n-spec =

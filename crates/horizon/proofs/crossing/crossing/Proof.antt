@@ -1,5 +1,4 @@
 use native.Mathlib.Omega.{arith}
-use native.Mathlib.Nat.{le-trans, div-le-self}
 use Rattle.minplus.specs.Horizon.{crossing}
 use Rattle.horizon.specs.Reach.{above-fits, below-fits, faster-fits}
 use borrow.Author.Needs.{needs}
@@ -59,10 +58,7 @@ div-result c = search needs
 
 returns : tie.Need-returns
 unfolding crossing
-returns c = (
-  rw (c .before .before .excess .ensures),
-  le-trans (div-le-self _ _) (omega (arith, c .before .before .excess .ensures, above-fits (c .before .before .before .before .before .before .before .before .before .pre), faster-fits (c .before .before .before .before .before .before .before .before .before .pre))),
-)
+returns c = rw (c .before .before .excess .ensures)
 
 pub crossing-spec : {M : Type 1} → statement M
 crossing-spec =

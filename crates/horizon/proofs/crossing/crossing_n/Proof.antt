@@ -1,5 +1,4 @@
-use mathlib.Core.Path.{refl, ap₂, _∙_}
-use native.Mathlib.Omega.{arith}
+use mathlib.Core.Path.{ap₂, _∙_}
 use Rattle.minplus.specs.Horizon.{crossing, highest, lowest, minimumN}
 use denote.Ref.{now}
 use Rattle.curve.specs.Steps.{curveFrom}
@@ -40,16 +39,14 @@ convolution-n-requires c κs = search needs
 
 returns : tie.Need-returns
 unfolding crossingN
-returns c = rw (c .enum-told .given .1) (refl, omega arith)
+returns c = rw (c .enum-told .given .1)
 
 returns-2 : tie.Need-returns-2
 unfolding crossingN minimumN crossing highest lowest
 returns-2 c =
     let a = c .before .before .before .before .before .before .before .args in
-    rw (c .before .before .before .enum-told2 .given .1) (
-      c .crossing .ensures .0 ∙ ap₂ (crossing (curveFrom (heldAs (a .f) (now (a .left)))) (curveFrom (heldAs (a .g) (now (a .right))))) (c .before .before .turning .ensures .0) (c .before .turning2 .ensures .0),
-      c .crossing .ensures .1,
-    )
+    rw (c .before .before .before .enum-told2 .given .1)
+    (c .crossing .ensures ∙ ap₂ (crossing (curveFrom (heldAs (a .f) (now (a .left)))) (curveFrom (heldAs (a .g) (now (a .right))))) (c .before .before .turning .ensures .0) (c .before .turning2 .ensures .0))
 
 returns-3 : tie.Need-returns-3
 unfolding crossingN

@@ -1,5 +1,4 @@
 use mathlib.Core.Path.{sym, _∙_}
-use native.Mathlib.Omega.{arith}
 use borrow.Author.Tests.{ltb-true}
 use denote.Ref.{now}
 use Rattle.curve.specs.Steps.{curveFrom}
@@ -19,7 +18,7 @@ crossing-n-requires c κs = let pre = c .before .before .before .before .pre in 
 returns : tie.Need-returns
 returns c =
     let a = c .before .before .before .before .before .args in
-    (c .crossing-n .ensures .0 ∙ sym (rates-left (curveFrom (heldAs (a .f) (now (a .left)))) (curveFrom (heldAs (a .g) (now (a .right)))) 0 (crossingN (operationOf (a .operation))) (sym (c .before .before .slower .ensures) ∙ c .before .if1 .taken)), c .crossing-n .ensures .1)
+    c .crossing-n .ensures ∙ sym (rates-left (curveFrom (heldAs (a .f) (now (a .left)))) (curveFrom (heldAs (a .g) (now (a .right)))) 0 (crossingN (operationOf (a .operation))) (sym (c .before .before .slower .ensures) ∙ c .before .if1 .taken))
 
 slower-requires-2 : tie.Need-slower-requires-2
 slower-requires-2 c κs = search needs
@@ -29,16 +28,14 @@ crossing-n-requires-2 c κs = let pre = c .before .before .before .before .befor
 
 returns-2 : tie.Need-returns-2
 returns-2 c =
-    let a = c .before .before .before .before .before .before .before .args in (
-      c .crossing-n2 .ensures .0
-          ∙ sym (rates-right (curveFrom (heldAs (a .f) (now (a .left)))) (curveFrom (heldAs (a .g) (now (a .right)))) 0 (crossingN (operationOf (a .operation))) (sym (c .before .before .before .before .slower .ensures) ∙ c .before .before .before .if1 .left) (sym (c .before .before .slower2 .ensures) ∙ c .before .if2 .taken)),
-      c .crossing-n2 .ensures .1,
-    )
+    let a = c .before .before .before .before .before .before .before .args in
+    c .crossing-n2 .ensures
+    ∙ sym (rates-right (curveFrom (heldAs (a .f) (now (a .left)))) (curveFrom (heldAs (a .g) (now (a .right)))) 0 (crossingN (operationOf (a .operation))) (sym (c .before .before .before .before .slower .ensures) ∙ c .before .before .before .if1 .left) (sym (c .before .before .slower2 .ensures) ∙ c .before .if2 .taken))
 
 returns-3 : tie.Need-returns-3
 returns-3 c =
     let a = c .before .before .before .before .before .before .args in
-    (sym (rates-even (curveFrom (heldAs (a .f) (now (a .left)))) (curveFrom (heldAs (a .g) (now (a .right)))) 0 (crossingN (operationOf (a .operation))) (sym (c .before .before .before .slower .ensures) ∙ c .before .before .if1 .left) (sym (c .before .slower2 .ensures) ∙ c .if2 .left)), omega arith)
+    sym (rates-even (curveFrom (heldAs (a .f) (now (a .left)))) (curveFrom (heldAs (a .g) (now (a .right)))) 0 (crossingN (operationOf (a .operation))) (sym (c .before .before .before .slower .ensures) ∙ c .before .before .if1 .left) (sym (c .before .slower2 .ensures) ∙ c .if2 .left))
 
 pub n-by-rates-spec : {M : Type 1} → statement M
 n-by-rates-spec =
