@@ -5,7 +5,7 @@
 --
 --     capped            a number as far as it is counted: the lesser of it and 4,097
 --     capped-twice      D capped, and then P capped over that, is P capped: of any three periods
---     capped-given      from 4,097 it is 4,097, whatever the other period
+--     capped-given      from 4,097 or more it is 4,097, in either place, whatever the other period
 --     plus-capped, max-capped     sums and greater ones are the same of numbers that are capped to one
 --     horizonFrom       the answer for a horizon: itself up to 4,096, and above that no number (horizon-at,
 --                       horizon-above)
@@ -16,10 +16,9 @@ use mathlib.Core.Path.{_≡_, refl, sym, ap, _∙_}
 use mathlib.Core.Logic.{_↔_, _⊎_, inl, inr, ⊎-elim}
 use mathlib.Core.Bool.{Bool, true, false, false≢true}
 use native.Mathlib.Omega.{arith}
-use native.Mathlib.Nat.{le-of-dvd}
 use lib.Dec.{ltb}
 use borrow.Author.Tests.{ltb-true, ltb-false}
-use Rattle.minplus.specs.Divisor.{gcd, lcm, lcm-comm, lcm-left, lcm-min, lcm-positive}
+use Rattle.minplus.specs.Divisor.{gcd, lcm, lcm-at-least, lcm-comm, lcm-min}
 use Rattle.minplus.specs.Horizon.{maxHorizon}
 use Rattle.curve.specs.declared.Ticks.{Ticks}
 use Rattle.horizon.specs.declared.Horizon.{Horizon}
@@ -36,10 +35,10 @@ horizonFrom n = elim (ltb maxHorizon n) [ true ↦ Above | false ↦ At (record 
 pub capped-twice : (d e h : ℕ) → capped (lcm (capped (lcm d e)) h) ≡ capped (lcm (lcm d e) h)
 capped-twice d e h = lcm-min 4_097 (lcm d e) h
 
-pub capped-given : (h : ℕ) → 0 < h → (capped (lcm 4_097 h) ≡ 4_097) × (capped (lcm h 4_097) ≡ 4_097)
-capped-given h some =
-    let given : capped (lcm 4_097 h) ≡ 4_097 = omega (arith, le-of-dvd (lcm-positive 4_097 h (omega arith) some) (lcm-left 4_097 h)) in
-    (given, ap capped (lcm-comm h 4_097) ∙ given)
+pub capped-given : (d h : ℕ) → 4_097 ≤ d → 0 < h → (capped (lcm d h) ≡ 4_097) × (capped (lcm h d) ≡ 4_097)
+capped-given d h above some =
+    let given : capped (lcm d h) ≡ 4_097 = omega (arith, lcm-at-least d h some) in
+    (given, ap capped (lcm-comm h d) ∙ given)
 
 pub plus-capped : (a b m n : ℕ) → capped a ≡ capped b → capped m ≡ capped n → capped (a + m) ≡ capped (b + n)
 plus-capped a b m n e e′ = omega arith
@@ -55,11 +54,15 @@ ticksOf : Horizon → ℕ
 ticksOf (At t) = t .0
 ticksOf Above = 0
 
-horizon-either : (n : ℕ) → ((n ≤ maxHorizon) × (horizonFrom n ≡ At (record { 0 = n }))) ⊎ ((maxHorizon < n) × (horizonFrom n ≡ Above))
+-- which of the two it is, and why
+abbrev Stands : ℕ → Type 0
+Stands n = ((n ≤ maxHorizon) × (horizonFrom n ≡ At (record { 0 = n }))) ⊎ ((maxHorizon < n) × (horizonFrom n ≡ Above))
+
+horizon-either : (n : ℕ) → Stands n
 unfolding horizonFrom
 horizon-either n = go (ltb maxHorizon n) refl
   where
-    go : (far : Bool) → ltb maxHorizon n ≡ far → ((n ≤ maxHorizon) × (horizonFrom n ≡ At (record { 0 = n }))) ⊎ ((maxHorizon < n) × (horizonFrom n ≡ Above))
+    go : (far : Bool) → ltb maxHorizon n ≡ far → Stands n
     go true e = inr (ltb-true maxHorizon n e, rw (e, horizonFrom))
     go false e = inl (ltb-false maxHorizon n e, rw (e, horizonFrom))
 

@@ -7,7 +7,7 @@
 --     gcd-left, gcd-right, gcd-greatest     it divides both, and each common divisor divides it
 --     lcm a b          a / gcd a b * b
 --     lcm-left, lcm-right, lcm-least        both divide it, and it divides each common multiple; lcm-comm
---     lcm-positive, lcm-of-0     it is 0 only where a number is
+--     lcm-positive, lcm-of-0, lcm-at-least     it is 0 only where a number is, and else not below either
 --     lcm-min          cut off at any number, it is the same from a first number that is cut off there too
 use Prim.Native.Nat.{ℕ, zero, suc, _-_, _*_, _/_, _%_, _≤_, _<_, _∣_, min}
 use mathlib.Core.Path.{_≡_, refl, sym, ap, _∙_, subst}
@@ -125,20 +125,21 @@ pub lcm-of-0 : (a : ℕ) → lcm a 0 ≡ 0
 unfolding lcm
 lcm-of-0 a = omega arith
 
+pub lcm-at-least : (a b : ℕ) → 0 < b → a ≤ lcm a b
+lcm-at-least zero b some = omega arith
+lcm-at-least (suc a) b some = le-of-dvd (lcm-positive (suc a) b (omega arith) some) (lcm-left (suc a) b)
+
 -- where a is above k, both multiples are at least k, unless b is 0
 pub lcm-min : (k a b : ℕ) → min (lcm (min a k) b) k ≡ min (lcm a b) k
 lcm-min k a zero = rw (lcm-of-0 (min a k), lcm-of-0 a)
 lcm-min zero a (suc b) = omega arith
 lcm-min (suc k) a (suc b) = go (ltb (suc k) a) refl
   where
-    at-least : (x : ℕ) → 0 < x → x ≤ lcm x (suc b)
-    at-least x some = le-of-dvd (lcm-positive x (suc b) some (omega arith)) (lcm-left x (suc b))
-
     go : (above : Bool) → ltb (suc k) a ≡ above → min (lcm (min a (suc k)) (suc b)) (suc k) ≡ min (lcm a (suc b)) (suc k)
     go true e =
         let lt : suc k < a = ltb-true (suc k) a e in
         let cut : min a (suc k) ≡ suc k = omega arith in
-        rw cut (omega (arith, at-least (suc k) (omega arith), at-least a (omega arith)))
+        rw cut (omega (arith, lcm-at-least (suc k) (suc b) (omega arith), lcm-at-least a (suc b) (omega arith)))
     go false e =
         let le : a ≤ suc k = ltb-false (suc k) a e in
         let whole : min a (suc k) ≡ a = omega arith in
