@@ -229,12 +229,12 @@ static int64_t horizon_of(const struct book *book, const struct claim *claim) {
 
 /* ---- verdicts */
 
-static struct zurmakida_record plain_code(unsigned code) {
-    return (struct zurmakida_record){.code = (uint8_t)code};
+static struct zurmakida_record plain_code(unsigned code, uint32_t tried) {
+    return (struct zurmakida_record){.code = (uint8_t)code, .tried = (uint16_t)tried};
 }
 
 static struct zurmakida_record refuted_at(uint32_t tick, uint64_t left, uint64_t right) {
-    return (struct zurmakida_record){ZURMAKIDA_REFUTED_AT_TICK, tick, left, right};
+    return (struct zurmakida_record){ZURMAKIDA_REFUTED_AT_TICK, tick, left, right, (uint16_t)(tick + 1)};
 }
 
 #ifdef JUDGE_CONVOLUTION
@@ -275,7 +275,7 @@ static struct zurmakida_record judge_equal(const struct book *book, const struct
         if (due != h[n])
             return refuted_at(n, due, h[n]);
     }
-    return plain_code(ZURMAKIDA_ACCEPTED);
+    return plain_code(ZURMAKIDA_ACCEPTED, horizon + 1);
 }
 
 /* The first tick below the horizon at which `bound` is broken, with both sides; accepted where there is none. */
@@ -287,7 +287,7 @@ static struct zurmakida_record try_bound(const struct curve *f, const struct cur
         if (left > right)
             return refuted_at(s, left, right);
     }
-    return plain_code(ZURMAKIDA_ACCEPTED);
+    return plain_code(ZURMAKIDA_ACCEPTED, horizon);
 }
 
 /* Kinds 4 to 7. */
@@ -299,16 +299,16 @@ static struct zurmakida_record judge_bound(const struct book *book, const struct
     if (record.code != ZURMAKIDA_ACCEPTED)
         return record;
     if (rate_difference(f, g) > 0)
-        return plain_code(ZURMAKIDA_REFUTED_BY_RATE);
+        return plain_code(ZURMAKIDA_REFUTED_BY_RATE, horizon);
     if (exact && claim->claimed > 0 && try_bound(f, g, delay, claim->claimed - 1, horizon).code == ZURMAKIDA_ACCEPTED)
-        return plain_code(ZURMAKIDA_REFUTED_NOT_LEAST);
+        return plain_code(ZURMAKIDA_REFUTED_NOT_LEAST, horizon);
     return record;
 }
 
 static struct zurmakida_record judge_claim(const struct book *book, const struct claim *claim) {
     int64_t horizon = horizon_of(book, claim);
     if (horizon > MAX_HORIZON)
-        return plain_code(ZURMAKIDA_NOT_JUDGED);
+        return plain_code(ZURMAKIDA_NOT_JUDGED, 0);
 #ifdef JUDGE_CONVOLUTION
     if (claim->kind == CONVOLUTION)
         return JUDGE_CONVOLUTION(&book->curves[claim->left], &book->curves[claim->right],
@@ -332,6 +332,7 @@ static void write_record(uint8_t *bytes, struct zurmakida_record record) {
     write_number(bytes + 1, 4, record.tick);
     write_number(bytes + 5, 8, record.left);
     write_number(bytes + 13, 8, record.right);
+    write_number(bytes + 21, 2, record.tried);
 }
 
 uint64_t judge(const uint8_t *bytes, size_t length, uint8_t *verdicts, size_t verdicts_length) {

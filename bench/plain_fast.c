@@ -91,5 +91,5 @@ static struct zurmakida_record judge_convolution(const struct curve *f, const st
         step(&tried);
         step(&claimed);
     }
-    return plain_code(ZURMAKIDA_ACCEPTED);
+    return plain_code(ZURMAKIDA_ACCEPTED, horizon + 1);
 }

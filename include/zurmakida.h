@@ -1,6 +1,6 @@
 /* zurmakida.h: the judge of books of min-plus curves and claims, for C99 and C++. x86-64 Linux.
 
-   judge() reads a book, decides each of its claims and writes a record of 21 bytes for each into a buffer that the
+   judge() reads a book, decides each of its claims and writes a record of 23 bytes for each into a buffer that the
    caller lends. curve_value() asks a book for the value of one of its curves at a tick. book_begin(), book_add_curve(),
    book_add_claim() and book_close() write a book. All are in the archive libzurmakida.a; link it after your own code.
 
@@ -67,7 +67,7 @@ extern "C" {
 #define ZURMAKIDA_MAX_BOOK_BYTES 32768 /* a longer book is refused */
 #define ZURMAKIDA_MAX_CURVES 16
 #define ZURMAKIDA_MAX_CLAIMS 256
-#define ZURMAKIDA_RECORD_BYTES 21
+#define ZURMAKIDA_RECORD_BYTES 23
 #define ZURMAKIDA_MAX_VERDICT_BYTES (ZURMAKIDA_MAX_CLAIMS * ZURMAKIDA_RECORD_BYTES) /* room for any book's records */
 #define ZURMAKIDA_MAX_TICK 2000000000 /* that curve_value takes */
 
@@ -92,7 +92,7 @@ enum zurmakida_refusal_number {
     ZURMAKIDA_REFUSED_TOO_LARGE = 12,     /* claim: X over 1,000,000,000. From curve_value also: tick over
                                              2,000,000,000, place 0 */
     ZURMAKIDA_REFUSED_END = 13,           /* end: the length isn't 0, or a byte follows */
-    ZURMAKIDA_REFUSED_NO_ROOM = 14,       /* a sound book, but the lent buffer is under 21 bytes per claim; place 0.
+    ZURMAKIDA_REFUSED_NO_ROOM = 14,       /* a sound book, but the lent buffer is under 23 bytes per claim; place 0.
                                              Not from curve_value */
     ZURMAKIDA_REFUSED_BOOK_TOO_LONG = 15  /* the book is over 32,768 bytes; place 0 */
 };
@@ -116,7 +116,7 @@ enum zurmakida_code {
        bits 48 to 63   claims not judged (code 5)
 
    Refused: the totals are 0 and nothing is written. Judged: number and place are 0, the totals add up to the claims of
-   the book, and the first 21 bytes per claim of `verdicts` are written, the records in the order of the claims; the
+   the book, and the first 23 bytes per claim of `verdicts` are written, the records in the order of the claims; the
    bytes after them stay as they were. */
 uint64_t judge(const uint8_t *book, size_t book_length, uint8_t *verdicts, size_t verdicts_length);
 
@@ -213,14 +213,20 @@ static inline int zurmakida_certified(uint64_t answer) {
     return zurmakida_accepted(answer) > 0 && zurmakida_accepted(answer) == zurmakida_claims(answer);
 }
 
-/* A record taken apart. In the buffer it is 21 bytes: code (1), tick (4), left (8), right (8), high byte first. Tick,
-   left and right are 0 unless the code is 2. There, for kinds 1 to 3, left is the due value and right is h; for 4 and
-   5, f(s) and g(s+X); for 6 and 7, f(s) and g(s)+X. */
+/* A record taken apart. In the buffer it is 23 bytes: code (1), tick (4), left (8), right (8), tried (2), high byte
+   first. Tick, left and right are 0 unless the code is 2. There, for kinds 1 to 3, left is the due value and right is
+   h; for 4 and 5, f(s) and g(s+X); for 6 and 7, f(s) and g(s)+X.
+
+   `tried` is how many ticks were tried, from tick 0 on: for code 2 the tick plus 1, for code 5 none. For the other
+   codes it is all that the horizon asks for: for kinds 1 to 3 the ticks 0 to the horizon, so that it is the horizon
+   plus 1; for 4 to 7 the ticks below it, so that it is the horizon. The test of X-1, for kinds 5 and 7, isn't
+   counted. */
 struct zurmakida_record {
     uint8_t code; /* of enum zurmakida_code */
     uint32_t tick;
     uint64_t left;
     uint64_t right;
+    uint16_t tried;
 };
 
 /* The number in `count` bytes, high byte first; at most 8. */
@@ -240,6 +246,7 @@ static inline struct zurmakida_record zurmakida_record_at(const uint8_t *verdict
     record.tick = (uint32_t)zurmakida_number(bytes + 1, 4);
     record.left = zurmakida_number(bytes + 5, 8);
     record.right = zurmakida_number(bytes + 13, 8);
+    record.tried = (uint16_t)zurmakida_number(bytes + 21, 2);
     return record;
 }
 

@@ -13,7 +13,7 @@
        C                                       ->  count, and each constant of the header: length, name, value
 
    The parts of an answer are refusal, place, accepted, refuted, not judged, claims and certified, those of a record
-   code, tick, left and right.
+   code, tick, left, right and tried.
 
    The steps of W are calls of the writer, and what changes between two of them. State and length are 0 before the first
    step; the state that a call answers is passed to the next.
@@ -44,7 +44,7 @@
 #include <string.h>
 #include <sys/mman.h>
 
-enum { PAGE = 4096, GUARD = 16 * PAGE, SENT = 32 * PAGE, RECORD = 21 };
+enum { PAGE = 4096, GUARD = 16 * PAGE, SENT = 32 * PAGE, RECORD = 23 };
 
 static unsigned long cases;
 
@@ -246,6 +246,7 @@ static void write_record(struct zurmakida_record record) {
     write_number(record.tick);
     write_number(record.left);
     write_number(record.right);
+    write_number(record.tried);
 }
 
 /* As many as the totals say, and no more than the buffer holds. */

@@ -8,10 +8,11 @@ use crate::cases::{case, Ask, Case, Lent, CODES, FAR_BITS, SHARING};
 use crate::header::{record, take_record, take_said, Parts};
 use crate::itself::Mirrored;
 use crate::judge::{answer, ask_value, decide, refusal_number, room_enough, Totals, RECORD};
-use crate::law::{horizon, pace, Verdict};
+use crate::law::{horizon, pace, Decided};
 use crate::seam::{falls_there, held_at, told_apart, READINGS};
 use crate::shared::{RATES, TARGETS};
 use crate::text::{hex, words};
+use crate::tried::Counts;
 use std::cmp::Ordering;
 use std::collections::{BTreeMap, BTreeSet};
 use std::io::Read;
@@ -38,6 +39,7 @@ struct Seen {
     /// Kind, horizon, and f's rate against g's, of the claims whose periods share divisors.
     sharing: BTreeSet<(u8, i64, Ordering)>,
     mirrored: Mirrored,
+    counts: Counts,
     /// What was long, and the highest bit of its length.
     far: BTreeSet<(&'static str, u32)>,
     seams: Seams,
@@ -138,7 +140,7 @@ fn judge_case(
 
 /// Of an answer that is right, and of its records.
 fn header_says(
-    decision: &Result<Vec<(u8, Verdict)>, Refusal>,
+    decision: &Result<Vec<Decided>, Refusal>,
     room: usize,
     answers: &mut impl Read,
 ) -> Result<(), String> {
@@ -163,8 +165,8 @@ fn header_says(
         ..Parts::default()
     };
     parts.take(answers)?;
-    for (claim, (_, verdict)) in verdicts.iter().enumerate() {
-        take_record(answers, record(verdict))
+    for (claim, decided) in verdicts.iter().enumerate() {
+        take_record(answers, record(decided))
             .map_err(|report| format!("record {claim}: {report}"))?;
     }
     Ok(())
@@ -182,7 +184,7 @@ fn spelled(answer: u64) -> String {
 }
 
 fn room_report(
-    decision: &Result<Vec<(u8, Verdict)>, Refusal>,
+    decision: &Result<Vec<Decided>, Refusal>,
     due: &[u8],
     got: &[u8],
     at: usize,
@@ -193,7 +195,15 @@ fn room_report(
     let within = record * RECORD..end;
     let claim = match decision {
         Ok(verdicts) => match verdicts.get(record) {
-            Some((kind, verdict)) => format!("claim {record} of kind {kind}: {}", words(verdict)),
+            Some(Decided {
+                kind,
+                verdict,
+                tried,
+                ..
+            }) => {
+                let said = words(verdict);
+                format!("claim {record} of kind {kind}: {said}, {tried} ticks tried")
+            }
             None => "after the last record, must stay".into(),
         },
         Err(refusal) => format!("refused ({}), must stay", refusal.why),
@@ -249,7 +259,7 @@ impl Seen {
         self.far.extend(lengths.into_iter().filter_map(highest));
     }
 
-    fn judge(&mut self, case: &Case, decision: &Result<Vec<(u8, Verdict)>, Refusal>, room: usize) {
+    fn judge(&mut self, case: &Case, decision: &Result<Vec<Decided>, Refusal>, room: usize) {
         self.judged += 1;
         self.seam(&case.book.bytes);
         let verdicts = match decision {
@@ -265,12 +275,16 @@ impl Seen {
         if let Err(refusal) = room_enough(verdicts.len(), room) {
             return self.refuse(&refusal);
         }
-        for (kind, verdict) in verdicts {
+        for decided in verdicts {
+            let reached = (decided.kind, decided.verdict.code());
             self.claims += 1;
-            *self.verdicts.entry((*kind, verdict.code())).or_default() += 1;
+            *self.verdicts.entry(reached).or_default() += 1;
+            self.counts.see(decided);
         }
         for (full, codes) in self.full.iter_mut().zip(CODES) {
-            let counted = verdicts.iter().filter(|(_, v)| codes.contains(&v.code()));
+            let counted = verdicts
+                .iter()
+                .filter(|d| codes.contains(&d.verdict.code()));
             *full += u64::from(counted.count() == MOST_CLAIMS);
         }
         let book = read(&case.book.bytes).expect("a book that was judged");
@@ -351,6 +365,7 @@ impl Seen {
         }
         missing.extend(self.missing_limits());
         missing.extend(self.mirrored.missing());
+        missing.extend(self.counts.missing());
         missing.extend(self.seams.missing(&[1, 3, 4, 6, 7, 8]));
         missing.extend(self.missing_values());
         missing
@@ -429,6 +444,7 @@ impl Seen {
             self.sharing.len()
         );
         text += &self.mirrored.summary();
+        text += &self.counts.summary();
         text += &self.seams.summary();
         text + &self.value_summary()
     }

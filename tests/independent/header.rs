@@ -12,7 +12,7 @@ use crate::cases::write_numbers;
 use crate::check::{take, take_number};
 use crate::dice::Dice;
 use crate::judge::{MOST_TICK, RECORD};
-use crate::law::Verdict;
+use crate::law::{Decided, Verdict};
 use std::io::{self, Read, Write};
 
 /// Version, 16 curves of 256 values, 256 claims with an X, end.
@@ -153,21 +153,21 @@ pub fn take_said(answers: &mut impl Read, name: &str, due: u64) -> Result<(), St
     ))
 }
 
-/// Code, tick, left and right.
-type Record = [u64; 4];
+/// Code, tick, left, right and ticks tried.
+type Record = [u64; 5];
 
-pub fn record(verdict: &Verdict) -> Record {
-    let code = verdict.code().into();
-    match verdict {
-        Verdict::RefutedAt((tick, left, right)) => {
-            [code, *tick as u64, *left as u64, *right as u64]
-        }
-        _ => [code, 0, 0, 0],
-    }
+pub fn record(decided: &Decided) -> Record {
+    let (tick, left, right) = match decided.verdict {
+        Verdict::RefutedAt(named) => named,
+        _ => (0, 0, 0),
+    };
+    let code = decided.verdict.code().into();
+    let [tick, left, right, tried] = [tick, left, right, decided.tried].map(|n| n as u64);
+    [code, tick, left, right, tried]
 }
 
 pub fn take_record(answers: &mut impl Read, due: Record) -> Result<(), String> {
-    for (name, due) in ["code", "tick", "left", "right"].iter().zip(due) {
+    for (name, due) in ["code", "tick", "left", "right", "tried"].iter().zip(due) {
         take_said(answers, name, due)?;
     }
     Ok(())
@@ -277,7 +277,7 @@ fn check_call(call: &Call, answers: &mut impl Read) -> Result<(), String> {
     take_said(answers, &name, call.answer.certified())?;
     take_said(answers, "written", call.number % (1 << 16))?;
     let bytes = &call.records[call.claim * RECORD..];
-    let parts = [&bytes[..1], &bytes[1..5], &bytes[5..13], &bytes[13..]];
+    let parts = [0..1, 1..5, 5..13, 13..21, 21..23].map(|part| &bytes[part]);
     for _ in 0..2 {
         take_said(answers, "number", number(&call.bytes))?;
         take_record(answers, parts.map(number))?;

@@ -7,7 +7,7 @@
 
 use crate::book::{Book, Curve, MOST_LISTED};
 use crate::dice::Dice;
-use crate::law::{horizon, table, Verdict, MOST_HORIZON};
+use crate::law::{horizon, table, Decided, Verdict, MOST_HORIZON};
 use crate::make::{bumpy, due_table, form, line, mended, repeats, rise, rising, shuffled, PACE};
 use std::collections::{BTreeMap, BTreeSet};
 
@@ -209,8 +209,8 @@ pub fn straight(dice: &mut Dice, t: i64, p: i64) -> [Curve; 2] {
 pub struct Mirrored(BTreeMap<(bool, bool, &'static str), u64>);
 
 impl Mirrored {
-    pub fn see(&mut self, book: &Book, verdicts: &[(u8, Verdict)]) {
-        for (claim, (kind, verdict)) in book.claims.iter().zip(verdicts) {
+    pub fn see(&mut self, book: &Book, verdicts: &[Decided]) {
+        for (claim, Decided { kind, verdict, .. }) in book.claims.iter().zip(verdicts) {
             let f = &book.curves[claim.left as usize];
             if *kind == 3 && *f == book.curves[claim.right as usize] {
                 let one = claim.left == claim.right;

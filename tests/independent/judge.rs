@@ -1,21 +1,21 @@
 //! What the entries answer: the 64-bit number, the lent buffer after the call, a value.
 //!
-//! decide     every verdict of a book, or its refusal
+//! decide     every verdict of a book with its ticks tried, or its refusal
 //! Totals     accepted, refuted and not judged, counted over the verdicts
 //! answer     the 64-bit number, with the records written into the lent buffer
 //! ask_value  a curve's value asked of a book
 
 use crate::book::{read, Refusal, ROOM};
-use crate::law::{value, verdict, Verdict};
+use crate::law::{decided, value, Decided};
 
 pub const MOST_TICK: u64 = 2_000_000_000;
-pub const RECORD: usize = 21;
+pub const RECORD: usize = 23;
 
-/// Kind and verdict of each claim.
-pub fn decide(bytes: &[u8]) -> Result<Vec<(u8, Verdict)>, Refusal> {
+/// What is due of each claim.
+pub fn decide(bytes: &[u8]) -> Result<Vec<Decided>, Refusal> {
     let book = read(bytes)?;
-    let one = |claim| verdict(&book, claim);
-    Ok(book.claims.iter().map(|c| (c.kind, one(c))).collect())
+    let one = |claim| decided(&book, claim);
+    Ok(book.claims.iter().map(one).collect())
 }
 
 #[derive(Default)]
@@ -26,10 +26,10 @@ pub struct Totals {
 }
 
 impl Totals {
-    pub fn of(verdicts: &[(u8, Verdict)]) -> Totals {
+    pub fn of(verdicts: &[Decided]) -> Totals {
         let mut totals = Totals::default();
-        for (_, verdict) in verdicts {
-            match verdict.code() {
+        for decided in verdicts {
+            match decided.verdict.code() {
                 1 => totals.accepted += 1,
                 2..=4 => totals.refuted += 1,
                 _ => totals.unjudged += 1,
@@ -56,7 +56,7 @@ pub fn refusal_number(refusal: &Refusal) -> u64 {
 }
 
 /// The answer of `judge`; `room` is the lent buffer before the call and after it.
-pub fn answer(decision: &Result<Vec<(u8, Verdict)>, Refusal>, room: &mut [u8]) -> u64 {
+pub fn answer(decision: &Result<Vec<Decided>, Refusal>, room: &mut [u8]) -> u64 {
     let verdicts = match decision {
         Ok(verdicts) => verdicts,
         Err(refusal) => return refusal_number(refusal),
@@ -64,8 +64,8 @@ pub fn answer(decision: &Result<Vec<(u8, Verdict)>, Refusal>, room: &mut [u8]) -
     if let Err(refusal) = room_enough(verdicts.len(), room.len()) {
         return refusal_number(&refusal);
     }
-    for (k, (_, verdict)) in verdicts.iter().enumerate() {
-        room[k * RECORD..(k + 1) * RECORD].copy_from_slice(&verdict.record());
+    for (k, decided) in verdicts.iter().enumerate() {
+        room[k * RECORD..(k + 1) * RECORD].copy_from_slice(&decided.record());
     }
     let totals = Totals::of(verdicts);
     (totals.accepted << 24) + (totals.refuted << 36) + (totals.unjudged << 48)

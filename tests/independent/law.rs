@@ -1,4 +1,4 @@
-//! Document 01, "Curves", "Claims", "The horizon" and "Verdicts", with its letters.
+//! Document 01, "Curves", "Claims", "The horizon" and "Verdicts", with its letters, and document 02, A3.
 //! Numbers are signed throughout, so N is worked out just as document 01 writes it.
 //!
 //! value, table             a curve's value by formula, and by repeating its rule
@@ -8,7 +8,9 @@
 //! due                      f(n)+g(n), the smaller, or the least f(u)+g(n-u)
 //! sides                    f(s) against g(s+X) or g(s)+X
 //! Verdict, verdict         the five codes, tried in document 01's order
-//! Verdict::record          the 21 bytes
+//! Decided, decided         kind, verdict and ticks tried of a claim
+//! all_ticks, tried         how many ticks a horizon has, and document 02's count of those tried
+//! Decided::record          the bytes of its record
 
 use crate::book::{Book, Claim, Curve};
 use std::cmp::Ordering;
@@ -223,16 +225,58 @@ impl Verdict {
             Verdict::NotJudged => 5,
         }
     }
+}
 
-    /// Code, tick (4 bytes), left (8), right (8). All but code 2 leave twenty zero bytes.
-    pub fn record(&self) -> [u8; 21] {
-        let mut record = [0; 21];
-        record[0] = self.code();
-        if let Verdict::RefutedAt((tick, left, right)) = self {
-            record[1..5].copy_from_slice(&(*tick as u32).to_be_bytes());
+/// What is due of one claim.
+#[derive(Clone, Copy)]
+pub struct Decided {
+    pub kind: u8,
+    pub verdict: Verdict,
+    pub tried: i64,
+    /// How many ticks its horizon has, tried or not.
+    pub all: i64,
+}
+
+/// Ticks 0 to K+P for kinds 1 to 3, those below the horizon for kinds 4 to 7.
+pub fn all_ticks(kind: u8, horizon: i64) -> i64 {
+    match kind {
+        1..=3 => horizon + 1,
+        _ => horizon,
+    }
+}
+
+/// "the named tick plus 1 for code 2, and 0 for code 5. Else it is the horizon for kinds 4 to 7 and the
+/// horizon plus 1 for kinds 1 to 3."
+pub fn tried(kind: u8, horizon: i64, verdict: &Verdict) -> i64 {
+    match verdict {
+        Verdict::RefutedAt((tick, _, _)) => tick + 1,
+        Verdict::NotJudged => 0,
+        _ => all_ticks(kind, horizon),
+    }
+}
+
+pub fn decided(book: &Book, claim: &Claim) -> Decided {
+    let (kind, verdict, horizon) = (claim.kind, verdict(book, claim), horizon(book, claim));
+    Decided {
+        kind,
+        verdict,
+        tried: tried(kind, horizon, &verdict),
+        all: all_ticks(kind, horizon),
+    }
+}
+
+impl Decided {
+    /// Code, tick (4 bytes), left (8), right (8), ticks tried (2). All but code 2 leave twenty zero bytes
+    /// between.
+    pub fn record(&self) -> [u8; 23] {
+        let mut record = [0; 23];
+        record[0] = self.verdict.code();
+        if let Verdict::RefutedAt((tick, left, right)) = self.verdict {
+            record[1..5].copy_from_slice(&(tick as u32).to_be_bytes());
             record[5..13].copy_from_slice(&left.to_be_bytes());
             record[13..21].copy_from_slice(&right.to_be_bytes());
         }
+        record[21..23].copy_from_slice(&(self.tried as u16).to_be_bytes());
         record
     }
 }

@@ -5,7 +5,7 @@
 //! judge.rs     the entries' answers                text.rs      the program's lines
 //! make.rs      sound books                         spoil.rs     spoiled ones
 //! shared.rs    periods that share divisors         seam.rs      curves at their seam
-//! itself.rs    convolutions of a curve with itself
+//! itself.rs    convolutions of a curve with itself tried.rs     counts of ticks tried
 //! cases.rs     the cases and their form            check.rs     answers compared
 //! writer.rs    the writer's answers and state      calls.rs     sequences of its calls
 //! calls_check.rs   their answers compared, and every byte
@@ -31,6 +31,7 @@ mod seam;
 mod shared;
 mod spoil;
 mod text;
+mod tried;
 mod writer;
 
 use std::env;

@@ -3,7 +3,7 @@
 use crate::book::Refusal;
 use crate::header::record;
 use crate::judge::{decide, Totals};
-use crate::law::Verdict;
+use crate::law::{Decided, Verdict};
 
 pub fn lines(bytes: &[u8]) -> String {
     match decide(bytes) {
@@ -16,9 +16,9 @@ fn refused(refusal: &Refusal) -> String {
     format!("refused {} at {}\n", refusal.number, refusal.place)
 }
 
-fn judged(verdicts: &[(u8, Verdict)]) -> String {
+fn judged(verdicts: &[Decided]) -> String {
     let mut text = String::new();
-    for (k, (_, verdict)) in verdicts.iter().enumerate() {
+    for (k, Decided { verdict, .. }) in verdicts.iter().enumerate() {
         text += &format!("claim {k} {}\n", words(verdict));
     }
     let totals = Totals::of(verdicts);
@@ -32,7 +32,7 @@ fn judged(verdicts: &[(u8, Verdict)]) -> String {
     text + certified(verdicts)
 }
 
-fn certified(verdicts: &[(u8, Verdict)]) -> &'static str {
+fn certified(verdicts: &[Decided]) -> &'static str {
     let accepted = Totals::of(verdicts).accepted;
     if !verdicts.is_empty() && accepted == verdicts.len() as u64 {
         "certified yes\n"
@@ -48,8 +48,8 @@ pub fn shown(bytes: &[u8]) -> String {
         Ok(verdicts) => verdicts,
     };
     let mut text = String::new();
-    for (k, (_, verdict)) in verdicts.iter().enumerate() {
-        let [code, tick, ..] = record(verdict);
+    for (k, decided) in verdicts.iter().enumerate() {
+        let [code, tick, ..] = record(decided);
         text += &format!("claim {k}: code {code}, tick {tick}\n");
     }
     text + certified(&verdicts)

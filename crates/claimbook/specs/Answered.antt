@@ -12,15 +12,18 @@
 use Prim.Native.Nat.{ℕ, zero, suc, _+_, _*_, _≤_, _<_}
 use mathlib.Core.Path.{_≡_, refl, ap, ap₂, _∙_}
 use mathlib.Core.List.{List, [], _++_}
+use mathlib.Core.Option.{Option, none, some}
 use native.Mathlib.Omega.{arith}
 use lib.ListN.{length, replicate, length-replicate}
-use Rattle.minplus.specs.Verdict.{Record, Verdict, accepted, refutedAt, refutedByRate, notLeast, notJudged, recordOf}
+use Rattle.minplus.specs.Claim.{Claim}
+use Rattle.minplus.specs.Verdict.{Record, Verdict, accepted, refutedAt, refutedByRate, notLeast, notJudged, recordWith, ticksTried, verdict}
 use Rattle.content.specs.Refusals.{numberOf}
 use Rattle.field.specs.Steps.{maxClaims}
 use Rattle.book.specs.Reading.{Contents, sound, readBook}
 use Rattle.book.specs.Sound.{sound-book}
 use Rattle.judge.specs.Answer.{acceptedIn, refutedIn, unjudgedIn, claimsIn, recordSize, recordIn}
-use Rattle.judge.specs.Run.{Room, answerOf, bufferOf, bufferOn, verdictAt, recordAt, run-sound}
+use Rattle.judge.specs.Claims.{recordFor, verdictFor}
+use Rattle.judge.specs.Run.{Room, answerOf, bufferOf, bufferOn, claimAt, verdictAt, recordAt, run-sound}
 use Rattle.judge.specs.Inspector.{Judged, Refused, record-back}
 use Rattle.report.specs.Text.{bytes}
 use Rattle.report.specs.Lines as lines
@@ -57,13 +60,17 @@ verdictLines f (suc k) = verdictLines f k ++ verdictLine k (f k)
 
 -- ---- laws
 
-said-so : (v : Verdict) → verdictWords (recordOf v .code) (recordOf v .tick) (recordOf v .left) (recordOf v .right) ≡ said v
-unfolding verdictWords said recordOf
-said-so accepted = refl
-said-so (refutedAt tick left right) = refl
-said-so refutedByRate = refl
-said-so notLeast = refl
-said-so notJudged = refl
+said-so : (o : Option Claim) → verdictWords (recordFor o .code) (recordFor o .tick) (recordFor o .left) (recordFor o .right) ≡ said (verdictFor o)
+unfolding verdictWords said recordFor verdictFor
+said-so none = refl
+said-so (some c) = go (verdict c) (ticksTried c (verdict c))
+  where
+    go : (v : Verdict) (count : ℕ) → let r = recordWith v count in verdictWords (r .code) (r .tick) (r .left) (r .right) ≡ said v
+    go accepted count = refl
+    go (refutedAt tick left right) count = refl
+    go refutedByRate count = refl
+    go notLeast count = refl
+    go notJudged count = refl
 
 module _ (book : List ℕ) where
   -- where there are no more claims than a book may have, the lines have room
@@ -85,10 +92,10 @@ module _ (book : List ℕ) where
         ap (λ (b : List ℕ). recordIn b k) (run-sound book blank c e holds .1 ∙ ap (bufferOn book blank) e) ∙ record-back book blank c e holds k lt
 
     line : (k : ℕ) → k < length (c .claims) → claimLine (bufferOf book blank) k ≡ verdictLine k (verdictAt book c k)
-    unfolding claimLine verdictLine
+    unfolding claimLine verdictLine verdictAt
     line k lt =
         ap (λ (t : List ℕ). part "claim " k ++ t)
-        (ap (λ (r : Record). verdictWords (r .code) (r .tick) (r .left) (r .right)) (back k lt) ∙ said-so (verdictAt book c k))
+        (ap (λ (r : Record). verdictWords (r .code) (r .tick) (r .left) (r .right)) (back k lt) ∙ said-so (claimAt book c k))
 
     each-line : (n : ℕ) → n ≤ length (c .claims) → claimLines (bufferOf book blank) n ≡ verdictLines (verdictAt book c) n
     unfolding claimLines verdictLines

@@ -41,13 +41,14 @@ fn judge(claim: Claim, f: Curve, g: Curve, h: Curve) {
         Judged::IllFormed => {
             ill_formed();
         }
-        Judged::Verdict(v) => {
-            let r = record_of(v);
+        Judged::Decided(decided) => {
+            let r = record_of(decided);
             io::write_all(1, b" record");
             field(r.code as u64);
             field(r.tick.0 as u64);
             field(r.left.0);
             field(r.right.0);
+            field(r.tried.0 as u64);
             io::write_all(1, b"\n");
         }
     }

@@ -1,13 +1,13 @@
 -- The answer and the verdict buffer, taken apart. Document 01: "as one 64-bit number: refusal number + 2^8 * place +
--- 2^24 * accepted + 2^36 * refuted + 2^48 * not judged"; "A record is 21 bytes: code, tick (4 bytes), left value (8),
--- right value (8), high byte first."
+-- 2^24 * accepted + 2^36 * refuted + 2^48 * not judged"; of a record "code, tick (4 bytes), left value (8), right value
+-- (8), high byte first". Document 02, A3: "from 21 to 23 bytes: two bytes at the end with the number of ticks tried".
 --
 --     answerWith                an answer from its parts
 --     refusalIn, placeIn, acceptedIn, refutedIn, unjudgedIn     the parts of an answer (answer-parts)
 --     claimsIn                  the three totals together
 --     certified                 over the totals: "yes exactly when there is at least one claim and all are accepted"
---     recordSize, codeIn, tickIn, leftIn, rightIn     the record of a claim in a buffer; recordIn: the four numbers
---                                                     together
+--     recordSize, codeIn, tickIn, leftIn, rightIn, triedIn     the record of a claim in a buffer; recordIn: the five
+--                                                     numbers together
 use Prim.Native.Nat.{ℕ, _+_, _*_, _/_, _%_, _^_, _<_}
 use mathlib.Core.Path.{_≡_}
 use mathlib.Core.Bool.{Bool, _&&_}
@@ -44,7 +44,7 @@ abbrev pub certified : (claims accepted : ℕ) → Bool
 certified claims accepted = leb 1 claims && eqb accepted claims
 
 abbrev pub recordSize : ℕ
-recordSize = 21
+recordSize = 23
 
 abbrev pub codeIn : List ℕ → ℕ → ℕ
 codeIn verdicts k = numberAt 1 verdicts (recordSize * k)
@@ -58,8 +58,17 @@ leftIn verdicts k = numberAt 8 verdicts (recordSize * k + 5)
 abbrev pub rightIn : List ℕ → ℕ → ℕ
 rightIn verdicts k = numberAt 8 verdicts (recordSize * k + 13)
 
+abbrev pub triedIn : List ℕ → ℕ → ℕ
+triedIn verdicts k = numberAt 2 verdicts (recordSize * k + 21)
+
 abbrev pub recordIn : List ℕ → ℕ → Record
-recordIn verdicts k = record { code = codeIn verdicts k; tick = tickIn verdicts k; left = leftIn verdicts k; right = rightIn verdicts k }
+recordIn verdicts k = record {
+  code = codeIn verdicts k;
+  tick = tickIn verdicts k;
+  left = leftIn verdicts k;
+  right = rightIn verdicts k;
+  tried = triedIn verdicts k;
+}
 
 -- ---- laws
 

@@ -1,13 +1,14 @@
 -- The claims of a book over its curves.
 --
 --     claimOn s places st         what a claim's field states, of the curves whose fields begin at those places
---     verdictIn s places curves p     the verdict on the claim whose field is at p, among so many curves; verdictFor:
---                                     on what it states
+--     claimRead s places curves p     the claim whose field is at p, among so many curves; claimFor: what it states, if
+--                                     it states any
+--     recordFor, verdictFor       the record and the verdict on it
 --     stated-kind                 what is stated is what the content's bytes say of its kind
 --     StandsOver                  it is a claim of curves that are there and well formed: so is each of a sound book
 --                                 (stands-over)
---     claim-well, verdict-stands     then it is well formed, and the verdict is that of document 01's rule
---     stands-array, verdict-array    all the same where the places stand in an array
+--     claim-well, claim-read      then it is well formed, and it is what is read there
+--     stands-array, claim-array   all the same where the places stand in an array
 use Prim.Native.Nat.{ℕ, _≤_, _<_}
 use mathlib.Core.Path.{_≡_, refl, sym, ap, subst, _∙_}
 use mathlib.Core.List.{List}
@@ -19,7 +20,7 @@ use lib.Dec.{eqb}
 use borrow.Author.Tests.{eqb-true, eqb-false}
 use Rattle.minplus.specs.Curve.{Curve, WellFormed}
 use Rattle.minplus.specs.Claim as M
-use Rattle.minplus.specs.Verdict.{Verdict, notJudged, verdict}
+use Rattle.minplus.specs.Verdict.{Record, Verdict, notJudged, recordOn, recordWith, verdict}
 use Rattle.curve.specs.Filled.{inArray}
 use Rattle.curve.specs.Claimed.{claimOver}
 use Rattle.curve.specs.Kinds.{xOf}
@@ -45,15 +46,25 @@ abbrev pub claimOn : List ℕ → List ℕ → Stated → M.Claim
 claimOn s places st =
     claimOver (st .claim) (curveNamed s places (st .left)) (curveNamed s places (st .right)) (curveNamed s places (st .claimed))
 
--- a field that states no claim has nothing to judge; a sound book has no such field (stands-over)
-unfoldable pub verdictFor : List ℕ → List ℕ → ClaimField → Verdict
-unfolding verdict
-verdictFor s places (claim-field.Stated st) = verdict (claimOn s places st)
-verdictFor s places (claim-field.Refused x) = notJudged
+-- a sound book has no field that states none (stands-over)
+unfoldable pub claimFor : List ℕ → List ℕ → ClaimField → Option M.Claim
+claimFor s places (claim-field.Stated st) = some (claimOn s places st)
+claimFor s places (claim-field.Refused x) = none
 
-unfoldable pub verdictIn : List ℕ → List ℕ → ℕ → ℕ → Verdict
-unfolding verdictFor claimField
-verdictIn s places curves p = verdictFor s places (claimField curves (contentAt s p))
+unfoldable pub claimRead : List ℕ → List ℕ → ℕ → ℕ → Option M.Claim
+unfolding claimFor claimField
+claimRead s places curves p = claimFor s places (claimField curves (contentAt s p))
+
+-- where no claim is stated, there is nothing to judge, and nothing is tried
+unfoldable pub recordFor : Option M.Claim → Record
+unfolding recordOn recordWith
+recordFor none = recordWith notJudged 0
+recordFor (some c) = recordOn c
+
+unfoldable pub verdictFor : Option M.Claim → Verdict
+unfolding verdict
+verdictFor none = notJudged
+verdictFor (some c) = verdict c
 
 pub record StandsOver (s places : List ℕ) (curves p : ℕ) : Type 0 where
   pub stands : Stands curves (contentAt s p)
@@ -103,9 +114,9 @@ module _ {s places : List ℕ} {curves p : ℕ} (over : StandsOver s places curv
       go (AtMost d) x w w′ w″ = (w, w′, x)
       go (Exactly d) x w w′ w″ = (w, w′, x)
 
-  pub verdict-stands : verdictIn s places curves p ≡ verdict (claimOn s places (over .stands .stated))
-  unfolding verdictIn
-  verdict-stands = ap (verdictFor s places) (over .stands .so)
+  pub claim-read : claimRead s places curves p ≡ some (claimOn s places (over .stands .stated))
+  unfolding claimRead
+  claim-read = ap (claimFor s places) (over .stands .so)
 
 module _ {s places : List ℕ} {curves p : ℕ} (over : StandsOver s places curves p) (all : curves ≡ length places) where
   same-curve : {n : ℕ} → n < curves → curveNamed s (inArray maxCurves places) n ≡ curveNamed s places n
@@ -118,12 +129,12 @@ module _ {s places : List ℕ} {curves p : ℕ} (over : StandsOver s places curv
     each-well = λ n named. subst WellFormed (sym (same-curve named)) (over .each-well n named);
   }
 
-  pub verdict-array : verdictIn s (inArray maxCurves places) curves p ≡ verdictIn s places curves p
+  pub claim-array : claimRead s (inArray maxCurves places) curves p ≡ claimRead s places curves p
   unfolding stands-array
-  verdict-array =
-      verdict-stands stands-array
-      ∙ ap verdict (same (over .stands .stated .claim) (same-curve (over .stands .left-named)) (same-curve (over .stands .right-named)) (same-curve (over .stands .claimed-named)))
-      ∙ sym (verdict-stands over)
+  claim-array =
+      claim-read stands-array
+      ∙ ap some (same (over .stands .stated .claim) (same-curve (over .stands .left-named)) (same-curve (over .stands .right-named)) (same-curve (over .stands .claimed-named)))
+      ∙ sym (claim-read over)
     where
       same : (c : Claim) {f f′ g g′ h h′ : Curve} → f ≡ f′ → g ≡ g′ → h ≡ h′ → claimOver c f g h ≡ claimOver c f′ g′ h′
       same c e e′ e″ = λ i. claimOver c (e i) (e′ i) (e″ i)

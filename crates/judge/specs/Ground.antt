@@ -7,8 +7,9 @@
 --     inspected-w8      W8, a claim of kind 5, is accepted, and its record is written; short-w8: with a byte too few
 --                       for it, it is refused
 --     inspected-w4      W4 has a claim of kind 3 that is accepted
---     inspected-w5      the bytes of W5's record: code 2, tick 6, due 7, claimed 8
+--     inspected-w5      the bytes of W5's record: code 2, tick 6, due 7, claimed 8, 7 ticks tried
 --     inspected-mixed   one claim accepted, two refuted and three not judged
+--     inspected-wide    a count of ticks that needs both of its bytes
 use Prim.Native.Nat.{ℕ, _+_, _*_, _/_, _%_, _^_}
 use mathlib.Core.Path.{_≡_, refl}
 use mathlib.Core.List.{List, [], _∷_, _++_, flatMap, map}
@@ -21,7 +22,7 @@ use Rattle.content.specs.Refusals.{numberOf}
 use Rattle.field.specs.Fields.{tagBy, contentAt}
 use Rattle.book.specs.Ground.{w8, fieldA, fieldB, ended}
 use Rattle.numbers.specs.Numbers.{numberAt}
-use Rattle.judge.specs.Answer.{codeIn}
+use Rattle.judge.specs.Answer.{codeIn, triedIn}
 use Rattle.judge.specs.Run.{answerOf, bufferOf}
 
 -- version; then the rest
@@ -47,6 +48,11 @@ mixed =
     begun (fieldA ++ fieldB ++ zeros 15 ++ zeros 16 ++ zeros 19
     ++ (2 ∷ 0 ∷ 7 ∷ 5 ∷ 0 ∷ 1 ∷ 0 ∷ 0 ∷ 0 ∷ 3 ∷ []) ++ (2 ∷ 0 ∷ 7 ∷ 4 ∷ 0 ∷ 1 ∷ 0 ∷ 0 ∷ 0 ∷ 2 ∷ []) ++ (2 ∷ 0 ∷ 7 ∷ 5 ∷ 0 ∷ 1 ∷ 0 ∷ 0 ∷ 0 ∷ 4 ∷ [])
     ++ (2 ∷ 0 ∷ 4 ∷ 1 ∷ 2 ∷ 3 ∷ 4 ∷ []) ++ (2 ∷ 0 ∷ 4 ∷ 1 ∷ 2 ∷ 3 ∷ 4 ∷ []) ++ (2 ∷ 0 ∷ 4 ∷ 1 ∷ 2 ∷ 3 ∷ 4 ∷ []) ++ ended)
+
+-- a sum of zero curves of periods 13 and 20 that is claimed as zero with period 1, whose horizon is 260
+unfoldable pub wide : List ℕ
+unfolding begun zeros ended
+wide = begun (zeros 13 ++ zeros 20 ++ zeros 1 ++ (2 ∷ 0 ∷ 4 ∷ 1 ∷ 0 ∷ 1 ∷ 2 ∷ []) ++ ended)
 
 -- document 02, A2: flat 10, the vendor's curve, and the exact delay 19 of the first on the second
 vendors : List ℕ
@@ -105,7 +111,7 @@ table =
     -- 9: 1, then 0
     ∷ answers (begun (1 ∷ 0 ∷ 16 ∷ 0 ∷ 0 ∷ 0 ∷ 2 ∷ 0 ∷ 0 ∷ 0 ∷ 0 ∷ 0 ∷ 0 ∷ 0 ∷ 1 ∷ replicate 4 0)) 0 (9 + 2 ^ 8 * 4)
     -- 9 at the seam: the vendor's book, the exact delay 19 of flat 10 on the curve 0, 10, 1, 11
-    ∷ answers vendors 21 (9 + 2 ^ 8 * 19)
+    ∷ answers vendors 23 (9 + 2 ^ 8 * 19)
     -- T = 1, d = 2, the values 0 2 5: sound with c = 3, and not with 2
     ∷ answers (begun (1 ∷ 0 ∷ 20 ∷ 0 ∷ 1 ∷ 0 ∷ 2 ∷ 0 ∷ 0 ∷ 0 ∷ 3 ∷ 0 ∷ 0 ∷ 0 ∷ 0 ∷ 0 ∷ 0 ∷ 0 ∷ 2 ∷ 0 ∷ 0 ∷ 0 ∷ 5 ∷ ended)) 0 0
     ∷ answers (begun (1 ∷ 0 ∷ 20 ∷ 0 ∷ 1 ∷ 0 ∷ 2 ∷ 0 ∷ 0 ∷ 0 ∷ 2 ∷ 0 ∷ 0 ∷ 0 ∷ 0 ∷ 0 ∷ 0 ∷ 0 ∷ 2 ∷ 0 ∷ 0 ∷ 0 ∷ 5 ∷ ended)) 0 (9 + 2 ^ 8 * 4)
@@ -121,8 +127,8 @@ table =
     -- 13: a byte follows; length that is not 0
     ∷ answers (begun (ended ++ (0 ∷ []))) 0 (13 + 2 ^ 8 * 4)
     ∷ answers (begun (127 ∷ 0 ∷ 1 ∷ 0 ∷ [])) 0 (13 + 2 ^ 8 * 4)
-    -- 14: a byte too few for six records of 21
-    ∷ answers mixed 125 14
+    -- 14: a byte too few for six records of 23
+    ∷ answers mixed 137 14
     -- 15: one byte over 32,768
     ∷ answers (replicate 32_769 16) 0 15
     -- two faults in one field: the one that is looked for first counts. 1 before 2, 2 before 1
@@ -149,38 +155,45 @@ table =
     -- and a book's own refusal before 14
     ∷ answers (take 50 w8) 0 (1 + 2 ^ 8 * 46)
     -- the totals: 1 accepted, 2 refuted, 3 not judged
-    ∷ answers mixed 126 (2 ^ 24 * 1 + 2 ^ 36 * 2 + 2 ^ 48 * 3)
+    ∷ answers mixed 138 (2 ^ 24 * 1 + 2 ^ 36 * 2 + 2 ^ 48 * 3)
     ∷ []
 
 ground : map (λ r. answerOf (r .book) (replicate (r .room) 7)) table ≡ map (λ r. r .due) table
 unfolding answerOf table tagBy kindBy numberAt listOf numberOf
 ground = refl
 
--- W8 with a buffer of 24 bytes: an exact delay, accepted, and the last three bytes stay
+-- W8 with a buffer of 26 bytes: an exact delay, accepted with 3 ticks tried, and the last three bytes stay
 pub inspected-w8 : (kindIn (contentAt w8 46) ≡ some (bound delay exactly))
-    × (answerOf w8 (replicate 24 7) ≡ 2 ^ 24) × (bufferOf w8 (replicate 24 7) ≡ 1 ∷ (replicate 20 0 ++ replicate 3 7))
+    × (answerOf w8 (replicate 26 7) ≡ 2 ^ 24) × (bufferOf w8 (replicate 26 7) ≡ 1 ∷ (replicate 21 0 ++ (3 ∷ replicate 3 7)))
 unfolding answerOf bufferOf w8 tagBy kindBy numberAt listOf
 inspected-w8 = (refl, refl, refl)
 
 -- with a byte too few for its record: 14 at place 0, and nothing is written
-pub short-w8 : (answerOf w8 (replicate 20 7) ≡ 14) × (bufferOf w8 (replicate 20 7) ≡ replicate 20 7)
+pub short-w8 : (answerOf w8 (replicate 22 7) ≡ 14) × (bufferOf w8 (replicate 22 7) ≡ replicate 22 7)
 unfolding answerOf bufferOf w8 tagBy kindBy numberAt listOf numberOf
 short-w8 = (refl, refl)
 
--- W4: a claim of kind 3 that is accepted
-pub inspected-w4 : (kindIn (contentAt (convolved 1) 81) ≡ some (result convolution)) × (codeIn (bufferOf (convolved 1) (replicate 21 0)) 0 ≡ 1)
+-- W4: a claim of kind 3 that is accepted, after the ticks 0 to 6
+pub inspected-w4 : (kindIn (contentAt (convolved 1) 81) ≡ some (result convolution))
+    × (codeIn (bufferOf (convolved 1) (replicate 23 0)) 0 ≡ 1) × (triedIn (bufferOf (convolved 1) (replicate 23 0)) 0 ≡ 7)
 unfolding convolved bufferOf tagBy kindBy numberAt listOf
-inspected-w4 = (refl, refl)
+inspected-w4 = (refl, refl, refl)
 
--- W5, "refuted at 6, due 7, claimed 8": code (1), tick (4), left (8), right (8); the last three bytes stay
-pub inspected-w5 : bufferOf (convolved 2) (replicate 24 9)
-    ≡ 2 ∷ 0 ∷ 0 ∷ 0 ∷ 6 ∷ 0 ∷ 0 ∷ 0 ∷ 0 ∷ 0 ∷ 0 ∷ 0 ∷ 7 ∷ 0 ∷ 0 ∷ 0 ∷ 0 ∷ 0 ∷ 0 ∷ 0 ∷ 8 ∷ replicate 3 9
+-- W5, "refuted at 6, due 7, claimed 8": code (1), tick (4), left (8), right (8), and 7 ticks tried (2); the last three
+-- bytes stay
+pub inspected-w5 : bufferOf (convolved 2) (replicate 26 9)
+    ≡ 2 ∷ 0 ∷ 0 ∷ 0 ∷ 6 ∷ 0 ∷ 0 ∷ 0 ∷ 0 ∷ 0 ∷ 0 ∷ 0 ∷ 7 ∷ 0 ∷ 0 ∷ 0 ∷ 0 ∷ 0 ∷ 0 ∷ 0 ∷ 8 ∷ 0 ∷ 7 ∷ replicate 3 9
 unfolding convolved bufferOf tagBy kindBy numberAt listOf
 inspected-w5 = refl
 
--- the records stand in the order of the claims, 21 bytes each
-pub inspected-mixed : bufferOf mixed (replicate 126 9)
-    ≡ (1 ∷ replicate 20 0) ++ (2 ∷ 0 ∷ 0 ∷ 0 ∷ 1 ∷ (replicate 7 0 ++ (4 ∷ (replicate 7 0 ++ (2 ∷ [])))))
-    ++ (4 ∷ replicate 20 0) ++ (5 ∷ replicate 20 0) ++ (5 ∷ replicate 20 0) ++ (5 ∷ replicate 20 0)
+-- the records stand in the order of the claims, 23 bytes each
+pub inspected-mixed : bufferOf mixed (replicate 138 9)
+    ≡ (1 ∷ (replicate 21 0 ++ (3 ∷ []))) ++ (2 ∷ 0 ∷ 0 ∷ 0 ∷ 1 ∷ (replicate 7 0 ++ (4 ∷ (replicate 7 0 ++ (2 ∷ 0 ∷ 2 ∷ [])))))
+    ++ (4 ∷ (replicate 21 0 ++ (3 ∷ []))) ++ (5 ∷ replicate 22 0) ++ (5 ∷ replicate 22 0) ++ (5 ∷ replicate 22 0)
 unfolding mixed bufferOf tagBy kindBy numberAt listOf
 inspected-mixed = refl
+
+-- 261 ticks tried: of the count too the high byte stands first
+pub inspected-wide : bufferOf wide (replicate 23 9) ≡ 1 ∷ (replicate 20 0 ++ (1 ∷ 5 ∷ []))
+unfolding wide bufferOf tagBy kindBy numberAt listOf
+inspected-wide = refl

@@ -12,7 +12,7 @@ use mathlib.Core.Path.{_≡_, refl, sym, ap, subst, _∙_}
 use mathlib.Core.List.{List}
 use native.Mathlib.Omega.{arith}
 use lib.ListN.{length, getD}
-use Rattle.minplus.specs.Verdict.{Record, recordOf}
+use Rattle.minplus.specs.Verdict.{Record}
 use Rattle.curve.specs.Filled.{array-at}
 use Rattle.numbers.specs.Put.{put, put-nothing, length-put}
 use Rattle.field.specs.Fields.{contentAt}
@@ -25,11 +25,11 @@ use Rattle.book.specs.Held.{bookOf, placesOf}
 use Rattle.book.specs.Sound.{SoundBook, sound-book}
 use Rattle.judge.specs.declared.Totals.{Totals}
 use Rattle.judge.specs.Answer.{recordSize}
-use Rattle.judge.specs.Claims.{verdictIn, StandsOver, stands-over, stands-array, verdict-array}
+use Rattle.judge.specs.Claims.{StandsOver, claimRead, recordFor, claim-array, stands-array, stands-over}
 use Rattle.judge.specs.Records.{recordBytes, recordsTo, length-records, records-more}
 use Rattle.judge.specs.Totals.{Countable, totalsTo, counted, totals-more, totals-add-up}
-use Rattle.judge.specs.Run.{verdictAt, recordAt, codeAt, totalsOn, bufferOn}
-use Rattle.judge.specs.Kept.{ClaimReady, Keeps, Kept, formsRoom, risesRoom, verdictKept, kept-ready, kept-verdict}
+use Rattle.judge.specs.Run.{claimAt, recordAt, codeAt, totalsOn, bufferOn}
+use Rattle.judge.specs.Kept.{ClaimReady, Keeps, Kept, claimKept, formsRoom, risesRoom, kept-claim, kept-ready}
 
 pub record Runs (s : List ℕ) (book : Book) (b : List ℕ) : Type 0 where
   pub contents : Contents
@@ -89,7 +89,7 @@ module _ {s b : List ℕ} {claims curves : ℕ} {places : Places} {forms rises o
   -- no more are counted than there are claims
   pub countable : Countable totals
   countable = record {
-    few = rw (written .counts) (omega (arith, totals-add-up (verdictAt s c) k, written .done, book-so .claims-fit));
+    few = rw (written .counts) (omega (arith, totals-add-up (claimAt s c) k, written .done, book-so .claims-fit));
   }
 
   pub length-written : length out ≡ length b
@@ -114,21 +114,21 @@ module _ {s b : List ℕ} {claims curves : ℕ} {places : Places} {forms rises o
     pub claim-ready : ClaimReady forms rises (claimField curves (contentAt s (getD (places .claims) k 0)))
     claim-ready = kept-ready stands-held (written .kept)
 
-    verdict-is : verdictIn s (places .curves) curves (getD (places .claims) k 0) ≡ verdictAt s c k
-    unfolding verdictAt
-    verdict-is =
-        ap (λ (x : Places). verdictIn s (x .curves) curves (getD (places .claims) k 0)) (written .held) ∙ verdict-array over (written .curve-count)
-        ∙ ap (λ (n : ℕ). verdictIn s (c .curves) n (getD (places .claims) k 0)) (written .curve-count)
-        ∙ ap (verdictIn s (c .curves) (length (c .curves))) place-is
+    claim-is : claimRead s (places .curves) curves (getD (places .claims) k 0) ≡ claimAt s c k
+    unfolding claimAt
+    claim-is =
+        ap (λ (x : Places). claimRead s (x .curves) curves (getD (places .claims) k 0)) (written .held) ∙ claim-array over (written .curve-count)
+        ∙ ap (λ (n : ℕ). claimRead s (c .curves) n (getD (places .claims) k 0)) (written .curve-count)
+        ∙ ap (claimRead s (c .curves) (length (c .curves))) place-is
 
     pub record-room : recordSize * k + recordSize ≤ length out
     record-room = omega (arith, length-written, written .room, here)
 
-    pub ran-more : {out′ : List ℕ} {totals′ : Totals} (r : Record) → r ≡ recordOf (verdictKept forms rises (claimField curves (contentAt s (getD (places .claims) k 0))))
+    pub ran-more : {out′ : List ℕ} {totals′ : Totals} (r : Record) → r ≡ recordFor (claimKept forms rises (claimField curves (contentAt s (getD (places .claims) k 0))))
         → out′ ≡ put out (recordSize * k) (recordBytes r) → totals′ ≡ counted totals (r .code)
         → Ran s b claims curves places forms rises out′ totals′ (k + 1)
     ran-more r e e′ e″ =
-        let is : r ≡ recordAt s c k = e ∙ ap recordOf (kept-verdict stands-held (written .kept) ∙ verdict-is) in
+        let is : r ≡ recordAt s c k = e ∙ ap recordFor (kept-claim stands-held (written .kept) ∙ claim-is) in
         record {
           contents = c;
           so = written .so;
@@ -158,4 +158,4 @@ ran-all {s} {b} {k = k} written all =
 -- the totals of a sound book are no more than it may have claims
 pub sound-countable : (s : List ℕ) (c : Contents) → readBook s ≡ sound c → Countable (totalsOn s (readBook s))
 unfolding totalsOn
-sound-countable s c e = rw e (record { few = omega (arith, totals-add-up (verdictAt s c) (length (c .claims)), sound-book s c e .claims-fit) })
+sound-countable s c e = rw e (record { few = omega (arith, totals-add-up (claimAt s c) (length (c .claims)), sound-book s c e .claims-fit) })

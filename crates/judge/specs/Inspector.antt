@@ -7,7 +7,8 @@
 --                             was
 --     Judged s b a after      the book is sound, there is a record for each claim, the totals count the records, and
 --                             the rest of the buffer is as it was; each record is on its claim (ClaimJudged) and says
---                             of it, code by code, what is so at every tick, without end (Says)
+--                             of it, code by code, what is so at every tick, without end, and which ticks were tried
+--                             (Says, Asked); says-one: no two records say all that of one claim
 --     inspected               for any s and b; record-back: record k of the buffer is the record on claim k
 --     IsClaim, claimCurve     claim k and its curves, as the claim's bytes say it (claimContent)
 --     accepted-convolution    for the code 1 of kind 3 spelled out: h(n) is the least f(u)+g(n-u), at every n
@@ -24,13 +25,14 @@ use mathlib.Core.Logic.{_↔_, _⊎_, inl, inr}
 use native.Mathlib.Omega.{arith}
 use lib.ListN.{length, getD, drop}
 use lib.Dec.{leb, ltb, eqb}
-use borrow.Author.Tests.{ltb-false, leb-true, le-leb, eqb-true, eq-eqb}
-use Rattle.minplus.specs.Search.{both-true}
+use borrow.Author.Tests.{ltb-true, ltb-false, leb-true, le-leb, eqb-true, eq-eqb}
+use Rattle.minplus.specs.Search.{both-true, false-unless}
 use Rattle.minplus.specs.Curve.{Curve, WellFormed, value}
 use Rattle.minplus.specs.Claim.{Claim, Claimed, Kind, Tightness, WellFormedClaim, atMost, bound, bounds, convolution, delay, due, equals, exactly, maxX, result}
 use Rattle.minplus.specs.Conv.{conv, conv-below, conv-attained}
 use Rattle.minplus.specs.Horizon.{horizon, maxHorizon}
-use Rattle.minplus.specs.Verdict.{Record, Verdict, accepted, refutedAt, refutedByRate, notLeast, notJudged, recordOf, verdict, leftAt, rightAt, tried}
+use Rattle.minplus.specs.Verdict.{Record, Verdict, accepted, refutedAt, refutedByRate, notLeast, notJudged, recordOf, recordOn, recordWith, verdict, leftAt, rightAt, tried}
+use Rattle.minplus.specs.Recorded.{verdictBy, verdict-by}
 use Rattle.minplus.specs.Meaning.{Meaning, Proper, Rule, Loose, Outpaced, well-formed-proper}
 use Rattle.minplus.specs.Exact.{verdict-exact, accepted-exactly, rate-exactly}
 use Rattle.minplus.specs.Delay.{Delayed, delay-means}
@@ -47,11 +49,17 @@ use Rattle.book.specs.Values.{curveNamed}
 use Rattle.numbers.specs.Numbers.{numberAt}
 use Rattle.numbers.specs.Put.{put, length-put, drop-put}
 use Rattle.judge.specs.Answer.{answer-parts, refusalIn, placeIn, acceptedIn, refutedIn, unjudgedIn, claimsIn, certified, recordSize, codeIn, recordIn}
-use Rattle.judge.specs.Claims.{claimOn, stated-kind, stands-over, claim-well, verdict-stands}
+use Rattle.judge.specs.Claims.{claimOn, recordFor, stated-kind, stands-over, claim-read, claim-well}
 use Rattle.judge.specs.Records.{recordsTo, length-records}
 use Rattle.judge.specs.Totals.{isAccepted, isRefuted, isUnjudged, countTo, totalsTo, together, totalsWord, totals-add-up, count-all}
-use Rattle.judge.specs.Run.{Room, verdictAt, recordAt, codeAt, admittedOn, admitted, refusedWord, answerOn, bufferOn, answerOf, bufferOf}
+use Rattle.judge.specs.Run.{Room, claimAt, recordAt, codeAt, admittedOn, admitted, refusedWord, answerOn, bufferOn, answerOf, bufferOf}
 use Rattle.judge.specs.Readback.{Fits, record-fits, records-back}
+
+-- the ticks that the horizon asks for: "ticks 0 to K+P are compared, the last one included"; "The ticks below it are
+-- tried"
+abbrev pub Asked : Claim → ℕ → Type 0
+Asked (equals op f g h) n = n ≤ horizon (equals op f g h)
+Asked (bounds δ t f g X) s = s < horizon (bounds δ t f g X)
 
 -- what a record says of its claim
 pub record Says (c : Claim) (r : Record) : Type 0 where
@@ -73,6 +81,12 @@ pub record Says (c : Claim) (r : Record) : Type 0 where
   pub code-5 : (r .code ≡ 5) ↔ (maxHorizon < horizon c)
   -- "For other codes the twenty bytes are 0."
   pub else-zero : ¬ (r .code ≡ 2) → (r .tick ≡ 0) × (r .left ≡ 0) × (r .right ≡ 0)
+  -- the ticks tried are those below the count. Of codes 1, 3 and 4 each of them keeps the rule, and they are all that
+  -- the horizon asks for: in kinds 1 to 3 those of 0 to the horizon, in kinds 4 to 7 those below it
+  pub tried-all : ¬ (r .code ≡ 2) → ¬ (r .code ≡ 5) → (n : ℕ) → ((n < r .tried) ↔ Asked c n) × (n < r .tried → Rule c n)
+  -- of code 2 they end at the named tick, and of code 5 there are none
+  pub tried-2 : r .code ≡ 2 → r .tried ≡ r .tick + 1
+  pub tried-5 : r .code ≡ 5 → r .tried ≡ 0
 
 -- claim k of a sound book, as its bytes say it: "kind, left, right (1 each), then h (1) for kinds 1 to 3 or X (4) for 4
 -- to 7"
@@ -108,7 +122,7 @@ pub record Judged (s b : List ℕ) (a : ℕ) (after : List ℕ) : Type 0 where
   pub unjudged-count : unjudgedIn a ≡ countTo isUnjudged (codeIn after) (length (contents .claims))
   pub add-up : claimsIn a ≡ length (contents .claims)
   pub each-claim : (k : ℕ) → k < length (contents .claims) → ClaimJudged s contents k (recordIn after k)
-  -- "the first 21 bytes per claim are written and the rest stays"
+  -- "the first [..] bytes per claim are written and the rest stays", "reckoned with 23"
   pub same-length : length after ≡ length b
   pub rest-stays : drop (recordSize * length (contents .claims)) after ≡ drop (recordSize * length (contents .claims)) b
 
@@ -123,47 +137,34 @@ pub record Refused (s b : List ℕ) (a : ℕ) (after : List ℕ) : Type 0 where
 
 -- ---- laws
 
--- the verdict of a record
-verdictBy : ℕ → Record → Verdict
-verdictBy code r =
-    elim (eqb code 1) [
-      | true ↦ accepted
-      | false ↦
-          elim (eqb code 2) [
-            | true ↦ refutedAt (r .tick) (r .left) (r .right)
-            | false ↦ elim (eqb code 3) [ true ↦ refutedByRate | false ↦ elim (eqb code 4) [ true ↦ notLeast | false ↦ notJudged ] ]
-          ]
-    ]
-
-verdict-by : (v : Verdict) → v ≡ verdictBy (recordOf v .code) (recordOf v)
-unfolding verdictBy recordOf
-verdict-by accepted = refl
-verdict-by (refutedAt tick left right) = refl
-verdict-by refutedByRate = refl
-verdict-by notLeast = refl
-verdict-by notJudged = refl
-
 -- a record's code is exactly its verdict's
-by-code : (v : Verdict) (k : ℕ) → recordOf v .code ≡ k → v ≡ verdictBy k (recordOf v)
-by-code v k e = verdict-by v ∙ ap (λ (j : ℕ). verdictBy j (recordOf v)) e
+by-code : (v : Verdict) (count k : ℕ) → recordWith v count .code ≡ k → v ≡ verdictBy k (recordWith v count)
+by-code v count k e = sym (verdict-by v count) ∙ ap (λ (j : ℕ). verdictBy j (recordWith v count)) e
+
+-- a claim tries the ticks that its horizon asks for
+tried-asked : (c : Claim) (n : ℕ) → (n < tried c) ↔ Asked c n
+unfolding tried
+tried-asked (equals op f g h) n = (λ lt. omega (arith, lt), λ le. omega (arith, le))
+tried-asked (bounds δ t f g X) n = (λ lt. lt, λ lt. lt)
 
 module _ (c : Claim) (well : WellFormedClaim c) where
   abbrev r : Record
-  r = recordOf (verdict c)
+  r = recordOn c
 
   abbrev proper : Proper c
   proper = well-formed-proper c well
 
   -- a code says what its verdict says
-  meant : {M : Type 0} (k : ℕ) (v : Verdict) → v ≡ verdictBy k r → recordOf v .code ≡ k → (verdict c ≡ v) ↔ M → (r .code ≡ k) ↔ M
+  meant : {M : Type 0} (k : ℕ) (v : Verdict) → v ≡ verdictBy k r → recordOf c v .code ≡ k → (verdict c ≡ v) ↔ M → (r .code ≡ k) ↔ M
+  unfolding recordOn
   meant k v is code exact =
-      (λ e. exact .0 (by-code (verdict c) k e ∙ sym is), λ m. ap (λ (w : Verdict). recordOf w .code) (exact .1 m) ∙ code)
+      (λ e. exact .0 (by-code (verdict c) _ k e ∙ sym is), λ m. ap (λ (w : Verdict). recordOf c w .code) (exact .1 m) ∙ code)
 
   named : (v : Verdict) → (verdict c ≡ v) ↔ Meaning c v
   named = verdict-exact c proper
 
   verdict-says : Says c r
-  unfolding verdictBy recordOf
+  unfolding verdictBy recordOn
   verdict-says = record {
     code-known = known (verdict c);
     code-1 = meant 1 accepted refl refl (accepted-exactly c proper);
@@ -173,21 +174,97 @@ module _ (c : Claim) (well : WellFormedClaim c) where
     code-4 = meant 4 notLeast refl refl (named _);
     code-5 = meant 5 notJudged refl refl (named _);
     else-zero = zeros (verdict c);
+    tried-all = all (verdict c) (named (verdict c) .0 refl);
+    tried-2 = at (verdict c);
+    tried-5 = none-tried (verdict c);
   }
     where
-      known : (v : Verdict) → (1 ≤ recordOf v .code) × (recordOf v .code ≤ 5)
+      known : (v : Verdict) → (1 ≤ recordOf c v .code) × (recordOf c v .code ≤ 5)
       known accepted = (omega arith, omega arith)
       known (refutedAt tick left right) = (omega arith, omega arith)
       known refutedByRate = (omega arith, omega arith)
       known notLeast = (omega arith, omega arith)
       known notJudged = (omega arith, omega arith)
 
-      zeros : (v : Verdict) → ¬ (recordOf v .code ≡ 2) → (recordOf v .tick ≡ 0) × (recordOf v .left ≡ 0) × (recordOf v .right ≡ 0)
+      zeros : (v : Verdict) → ¬ (recordOf c v .code ≡ 2) → (recordOf c v .tick ≡ 0) × (recordOf c v .left ≡ 0) × (recordOf c v .right ≡ 0)
       zeros accepted other = (refl, refl, refl)
       zeros (refutedAt tick left right) other = absurd (other refl)
       zeros refutedByRate other = (refl, refl, refl)
       zeros notLeast other = (refl, refl, refl)
       zeros notJudged other = (refl, refl, refl)
+
+      all : (v : Verdict) → Meaning c v → ¬ (recordOf c v .code ≡ 2) → ¬ (recordOf c v .code ≡ 5)
+          → (n : ℕ) → ((n < recordOf c v .tried) ↔ Asked c n) × (n < recordOf c v .tried → Rule c n)
+      all accepted m other known n = (tried-asked c n, λ lt. m .1 n)
+      all (refutedAt tick left right) m other known n = absurd (other refl)
+      all refutedByRate m other known n = (tried-asked c n, m .1 n)
+      all notLeast m other known n = (tried-asked c n, λ lt. m .1 n)
+      all notJudged m other known n = absurd (known refl)
+
+      at : (v : Verdict) → recordOf c v .code ≡ 2 → recordOf c v .tried ≡ recordOf c v .tick + 1
+      at accepted e = absurd (omega (arith, e))
+      at (refutedAt tick left right) e = refl
+      at refutedByRate e = absurd (omega (arith, e))
+      at notLeast e = absurd (omega (arith, e))
+      at notJudged e = absurd (omega (arith, e))
+
+      none-tried : (v : Verdict) → recordOf c v .code ≡ 5 → recordOf c v .tried ≡ 0
+      none-tried accepted e = absurd (omega (arith, e))
+      none-tried (refutedAt tick left right) e = absurd (omega (arith, e))
+      none-tried refutedByRate e = absurd (omega (arith, e))
+      none-tried notLeast e = absurd (omega (arith, e))
+      none-tried notJudged e = refl
+
+-- two counts of which each tick is below one exactly when it is below the other
+count-one : (a b : ℕ) → ((n : ℕ) → (n < a) ↔ (n < b)) → a ≡ b
+count-one a b same =
+    let up : b ≤ a = ltb-false a b (false-unless (ltb a b) (λ e. let lt : a < a = same a .1 (ltb-true a b e) in omega (arith, lt))) in
+    let down : a ≤ b = ltb-false b a (false-unless (ltb b a) (λ e. let lt : b < b = same b .0 (ltb-true b a e) in omega (arith, lt))) in
+    omega (arith, up, down)
+
+-- what holds of each code
+code-cases : (P : ℕ → Type 0) → P 1 → P 2 → P 3 → P 4 → P 5 → (k : ℕ) → 1 ≤ k → k ≤ 5 → P k
+code-cases P one two three four five zero low high = absurd (omega (arith, low))
+code-cases P one two three four five (suc zero) low high = one
+code-cases P one two three four five (suc (suc zero)) low high = two
+code-cases P one two three four five (suc (suc (suc zero))) low high = three
+code-cases P one two three four five (suc (suc (suc (suc zero)))) low high = four
+code-cases P one two three four five (suc (suc (suc (suc (suc zero))))) low high = five
+code-cases P one two three four five (suc (suc (suc (suc (suc (suc k)))))) low high = absurd (omega (arith, high))
+
+module _ (c : Claim) (well : WellFormedClaim c) (r : Record) (says : Says c r) where
+  -- of codes 1, 3 and 4
+  all-same : (v : Verdict) (k : ℕ) → r .code ≡ k → ¬ (k ≡ 2) → ¬ (k ≡ 5) → record { code = k; tick = 0; left = 0; right = 0; tried = tried c } ≡ recordOf c v
+      → verdict c ≡ v → r ≡ recordOn c
+  unfolding recordOn
+  all-same v k e two five is due =
+      let zero-else = says .else-zero (λ at. two (sym e ∙ at)) in
+      let asked = says .tried-all (λ at. two (sym e ∙ at)) (λ at. five (sym e ∙ at)) in
+      let count : r .tried ≡ tried c =
+      count-one (r .tried) (tried c) (λ n.
+      let all = tried-asked c n in
+      (λ lt. all .1 (asked n .0 .0 lt), λ lt. asked n .0 .1 (all .0 lt))) in
+      (λ i. record { code = e i; tick = zero-else .0 i; left = zero-else .1 i; right = zero-else .2 i; tried = count i })
+      ∙ is ∙ ap (recordOf c) (sym due)
+
+  says-record : r ≡ recordOn c
+  unfolding recordOn
+  says-record =
+      code-cases (λ k. r .code ≡ k → r ≡ recordOn c)
+      (λ e. all-same accepted 1 e (λ x. omega (arith, x)) (λ x. omega (arith, x)) refl (accepted-exactly c (proper c well) .1 (says .code-1 .0 e)))
+      (λ e.
+      let at : verdict c ≡ refutedAt (r .tick) (r .left) (r .right) = named c well _ .1 (says .code-2 .0 e) in
+      (λ i. record { code = e i; tick = r .tick; left = r .left; right = r .right; tried = says .tried-2 e i }) ∙ ap (recordOf c) (sym at))
+      (λ e. all-same refutedByRate 3 e (λ x. omega (arith, x)) (λ x. omega (arith, x)) refl (named c well _ .1 (says .code-3-later .0 e)))
+      (λ e. all-same notLeast 4 e (λ x. omega (arith, x)) (λ x. omega (arith, x)) refl (named c well _ .1 (says .code-4 .0 e)))
+      (λ e.
+      let zero-else = says .else-zero (λ two. omega (arith, e, two)) in
+      (λ i. record { code = e i; tick = zero-else .0 i; left = zero-else .1 i; right = zero-else .2 i; tried = says .tried-5 e i })
+      ∙ ap (recordOf c) (sym (named c well notJudged .1 (says .code-5 .0 e))))
+      (r .code) (says .code-known .0) (says .code-known .1) refl
+
+pub says-one : (c : Claim) → WellFormedClaim c → (r r′ : Record) → Says c r → Says c r′ → r ≡ r′
+says-one c well r r′ says says′ = says-record c well r says ∙ sym (says-record c well r′ says′)
 
 -- a book is refused by one of document 01's numbers, at a place that fits the answer
 number-fits : (x : Refusal) → (1 ≤ numberOf x) × (numberOf x ≤ 15)
@@ -239,12 +316,12 @@ module _ (s b : List ℕ) (c : Contents) (so : readBook s ≡ sound c) (room : R
   after = put b 0 (recordsTo (recordAt s c) claims)
 
   claim-judged : (k : ℕ) → k < claims → ClaimJudged s c k (recordAt s c k) × Fits (recordAt s c k)
-  unfolding verdictAt
+  unfolding claimAt recordFor
   claim-judged k lt =
       let over = stands-over s c (sound-book s c so) k lt in
       let claim : Claim = claimOn s (c .curves) (over .stands .stated) in
       let well : WellFormedClaim claim = claim-well over in
-      let is : recordOf (verdict claim) ≡ recordAt s c k = ap recordOf (sym (verdict-stands over)) in (
+      let is : recordOn claim ≡ recordAt s c k = ap recordFor (sym (claim-read over)) in (
         record {
           claim = claim;
           is-claim = said (stated-kind _ _ _ (over .stands .so));
@@ -268,7 +345,7 @@ module _ (s b : List ℕ) (c : Contents) (so : readBook s ≡ sound c) (room : R
   unfolding totalsTo
   is-judged =
       let t = totalsTo (codeAt s c) claims in
-      let all : together t ≡ claims = totals-add-up (verdictAt s c) claims in
+      let all : together t ≡ claims = totals-add-up (claimAt s c) claims in
       let few : claims ≤ maxClaims = sound-book s c so .claims-fit in
       let size : length (recordsTo (recordAt s c) claims) ≡ recordSize * claims = length-records (recordAt s c) claims in
       let end : 0 + length (recordsTo (recordAt s c) claims) ≡ recordSize * claims = omega (arith, size) in

@@ -5,12 +5,14 @@
 --     formAfter, risesAfter       with those of curve n in their place, as many rises as count
 --     Keeps                       arrays with room
 --     Kept s places forms rises n     the first n curves are kept: kept-none, kept-more
---     verdictKept, ClaimReady     the verdict on a claim's field over the curves that are kept, and what it asks
+--     claimKept, ClaimReady       what a claim's field states over the curves that are kept, and what judging it asks
+--     kept-stated, kept-refused   the record, by what the field states
 --     kept-curve, kept-lent       of a curve that is well formed: it is the curve of what is kept, which can be lent
---     kept-verdict, kept-ready    of a claim of a sound book: that is its verdict, and all that is asked holds
+--     kept-claim, kept-ready      of a claim of a sound book: that is what is read there, and all that is asked holds
 use Prim.Native.Nat.{ℕ, _+_, _*_, _≤_, _<_, min}
 use mathlib.Core.Path.{_≡_, refl, sym, ap, subst, _∙_}
 use mathlib.Core.List.{List, _++_}
+use mathlib.Core.Option.{Option, none, some}
 use native.Mathlib.Omega.{arith}
 use borrow.Author.Count.{below-more}
 use lib.ListN.{length, getD, set, take, drop, length-set, length-append, length-drop, List·getD-append}
@@ -22,19 +24,20 @@ use Rattle.curve.specs.declared.Curve.{Curve}
 use Rattle.curve.specs.Steps.{Steps, Lent, curveFrom}
 use Rattle.curve.specs.Held.{heldAs, heldCount, holding, holding-back, holding-length, form-same, risesInto}
 use Rattle.minplus.specs.Claim as M′
-use Rattle.minplus.specs.Verdict.{Verdict, notJudged, verdict}
+use Rattle.minplus.specs.Verdict.{notJudged, recordOn, recordWith}
 use Rattle.curve.specs.declared.Claim.{Claim}
 use Rattle.curve.specs.declared.Claim.the-variants.{Equals, AtMost, Exactly}
 use Rattle.curve.specs.Claimed.{LentClaim, claimOver}
 use Rattle.curve.specs.Kinds.{xOf}
 use Rattle.content.specs.declared.Stated.{Stated}
+use Rattle.content.specs.declared.Refusal.{Refusal}
 use Rattle.content.specs.declared.ClaimField.{ClaimField}
 use Rattle.content.specs.declared.ClaimField.the-variants as claim-field
 use Rattle.content.specs.Refusals.{claimField}
 use Rattle.field.specs.Fields.{contentAt}
 use Rattle.field.specs.Steps.{maxCurves}
 use Rattle.book.specs.Values.{curveNamed}
-use Rattle.judge.specs.Claims.{StandsOver, verdictIn, verdict-stands}
+use Rattle.judge.specs.Claims.{StandsOver, claimRead, recordFor, claim-read}
 
 abbrev pub formsRoom : ℕ
 formsRoom = 64
@@ -74,12 +77,11 @@ pub record Kept (s places forms rises : List ℕ) (n : ℕ) : Type 0 where
   pub form-kept : (k : ℕ) → k < n → formIn forms k ≡ holding (curveNamed s places k) .form
   pub rises-kept : (k : ℕ) → k < n → (i : ℕ) → i < heldCount (holding (curveNamed s places k) .form) → getD rises (256 * k + i) 0 ≡ getD (holding (curveNamed s places k) .rises) i 0
 
--- the verdict on what a claim's field states, of the curves that are kept
-unfoldable pub verdictKept : List ℕ → List ℕ → ClaimField → Verdict
-unfolding verdict
-verdictKept forms rises (claim-field.Stated st) =
-    verdict (claimOver (st .claim) (curveFrom (stepsIn forms rises (st .left))) (curveFrom (stepsIn forms rises (st .right))) (curveFrom (stepsIn forms rises (st .claimed))))
-verdictKept forms rises (claim-field.Refused x) = notJudged
+-- what a claim's field states, of the curves that are kept
+unfoldable pub claimKept : List ℕ → List ℕ → ClaimField → Option M′.Claim
+claimKept forms rises (claim-field.Stated st) =
+    some (claimOver (st .claim) (curveFrom (stepsIn forms rises (st .left))) (curveFrom (stepsIn forms rises (st .right))) (curveFrom (stepsIn forms rises (st .claimed))))
+claimKept forms rises (claim-field.Refused x) = none
 
 -- what is known of what it states
 pub record ClaimReady (forms rises : List ℕ) (field : ClaimField) : Type 0 where
@@ -90,6 +92,16 @@ pub record ClaimReady (forms rises : List ℕ) (field : ClaimField) : Type 0 whe
       → LentClaim (st .claim) (stepsIn forms rises (st .left)) (stepsIn forms rises (st .right)) (stepsIn forms rises (st .claimed))
 
 -- ---- laws
+
+pub kept-stated : (forms rises : List ℕ) (st : Stated)
+    → recordOn (claimOver (st .claim) (curveFrom (stepsIn forms rises (st .left))) (curveFrom (stepsIn forms rises (st .right))) (curveFrom (stepsIn forms rises (st .claimed))))
+    ≡ recordFor (claimKept forms rises (claim-field.Stated st))
+unfolding claimKept recordFor
+kept-stated forms rises st = refl
+
+pub kept-refused : (forms rises : List ℕ) (x : Refusal) → recordWith notJudged 0 ≡ recordFor (claimKept forms rises (claim-field.Refused x))
+unfolding claimKept recordFor
+kept-refused forms rises x = refl
 
 -- the rises of a curve in their place, and those before it
 module _ (rises : List ℕ) (n : ℕ) (f : Curve) (room : length rises ≡ risesRoom) (lt : n < maxCurves) (long : length (f .rises) ≡ 256) where
@@ -276,12 +288,12 @@ module _ {s places forms rises : List ℕ} {curves p : ℕ} (over : StandsOver s
   claimed-is : curveFrom (stepsIn forms rises (over .stands .stated .claimed)) ≡ curveNamed s places (over .stands .stated .claimed)
   claimed-is = kept-curve kept _ (over .stands .claimed-named) (over .few) (over .each-well _ (over .stands .claimed-named))
 
-  pub kept-verdict : verdictKept forms rises (claimField curves (contentAt s p)) ≡ verdictIn s places curves p
-  unfolding verdictKept
-  kept-verdict =
-      ap (verdictKept forms rises) (over .stands .so)
-      ∙ (λ i. verdict (claimOver (over .stands .stated .claim) (left-is i) (right-is i) (claimed-is i)))
-      ∙ sym (verdict-stands over)
+  pub kept-claim : claimKept forms rises (claimField curves (contentAt s p)) ≡ claimRead s places curves p
+  unfolding claimKept
+  kept-claim =
+      ap (claimKept forms rises) (over .stands .so)
+      ∙ (λ i. some (claimOver (over .stands .stated .claim) (left-is i) (right-is i) (claimed-is i)))
+      ∙ sym (claim-read over)
 
   pub kept-ready : ClaimReady forms rises (claimField curves (contentAt s p))
   kept-ready = record {

@@ -12,7 +12,7 @@ use Rattle.minplus.specs.Curve.{value, value-at-most}
 use Rattle.minplus.specs.Claim.{Claim, WellFormedClaim, equals, bounds, sum, minimum, convolution, delay, backlog, due, allowed}
 use Rattle.minplus.specs.Conv.{conv-below}
 use Rattle.minplus.specs.Horizon.{horizon, maxHorizon}
-use Rattle.minplus.specs.Verdict.{Record, Verdict, accepted, refutedAt, refutedByRate, notLeast, notJudged, recordOf, verdict, leftAt, rightAt, tried}
+use Rattle.minplus.specs.Verdict.{Record, Verdict, accepted, refutedAt, refutedByRate, notLeast, notJudged, recordOf, recordOn, verdict, leftAt, rightAt, tried}
 use Rattle.minplus.specs.Meaning.{Meaning, well-formed-proper}
 use Rattle.minplus.specs.Exact.{verdict-exact}
 use Rattle.numbers.specs.Numbers.{numberAt}
@@ -26,11 +26,18 @@ pub record Fits (r : Record) : Type 0 where
   pub tick-fits : r .tick < 256 ^ 4
   pub left-fits : r .left < 256 ^ 8
   pub right-fits : r .right < 256 ^ 8
+  pub tried-fits : r .tried < 256 ^ 2
 
 -- ---- of a well-formed claim
 
-small : (c : ℕ) → c < 256 → Fits (record { code = c; tick = 0; left = 0; right = 0 })
-small c lt = record { code-fits = omega (arith, lt); tick-fits = omega arith; left-fits = omega arith; right-fits = omega arith }
+small : (c n : ℕ) → c < 256 → n < 256 ^ 2 → Fits (record { code = c; tick = 0; left = 0; right = 0; tried = n })
+small c n lt few = record {
+  code-fits = omega (arith, lt);
+  tick-fits = omega arith;
+  left-fits = omega arith;
+  right-fits = omega arith;
+  tried-fits = few;
+}
 
 left-small : (c : Claim) → WellFormedClaim c → (n : ℕ) → n ≤ maxHorizon → leftAt c n < 256 ^ 8
 unfolding leftAt due
@@ -46,28 +53,29 @@ right-small (equals op f g h) w n le = omega (arith, value-at-most h (w .2) n)
 right-small (bounds delay t f g X) w n le = omega (arith, value-at-most g (w .1) (n + X), w .2)
 right-small (bounds backlog t f g X) w n le = omega (arith, value-at-most g (w .1) n, w .2)
 
-tried-near : (c : Claim) (n : ℕ) → horizon c ≤ maxHorizon → n < tried c → n ≤ maxHorizon
+tried-most : (c : Claim) → horizon c ≤ maxHorizon → tried c ≤ maxHorizon + 1
 unfolding tried
-tried-near (equals op f g h) n le lt = omega (arith, le, lt)
-tried-near (bounds δ t f g X) n le lt = omega (arith, le, lt)
+tried-most (equals op f g h) le = omega (arith, le)
+tried-most (bounds δ t f g X) le = omega (arith, le)
 
-pub record-fits : (c : Claim) → WellFormedClaim c → Fits (recordOf (verdict c))
-unfolding recordOf
+pub record-fits : (c : Claim) → WellFormedClaim c → Fits (recordOn c)
+unfolding recordOn
 record-fits c well = go (verdict c) (verdict-exact c (well-formed-proper c well) (verdict c) .0 refl)
   where
-    go : (v : Verdict) → Meaning c v → Fits (recordOf v)
-    go accepted m = small 1 (omega arith)
+    go : (v : Verdict) → Meaning c v → Fits (recordOf c v)
+    go accepted m = small 1 (tried c) (omega arith) (omega (arith, tried-most c (m .0)))
     go (refutedAt tick left right) m =
-        let near : tick ≤ maxHorizon = tried-near c tick (m .0) (m .1) in
+        let near : tick ≤ maxHorizon = omega (arith, m .1, tried-most c (m .0)) in
         record {
           code-fits = omega arith;
           tick-fits = omega (arith, near);
           left-fits = rw (m .4) (left-small c well tick near);
           right-fits = rw (m .5) (right-small c well tick near);
+          tried-fits = omega (arith, near);
         }
-    go refutedByRate m = small 3 (omega arith)
-    go notLeast m = small 4 (omega arith)
-    go notJudged m = small 5 (omega arith)
+    go refutedByRate m = small 3 (tried c) (omega arith) (omega (arith, tried-most c (m .0)))
+    go notLeast m = small 4 (tried c) (omega arith) (omega (arith, tried-most c (m .0)))
+    go notJudged m = small 5 0 (omega arith) (omega arith)
 
 -- ---- of a list
 
@@ -86,16 +94,21 @@ record-middle pre post r k fits e =
     let one : List ℕ = bytesOf 1 (r .code) in
     let four : List ℕ = bytesOf 4 (r .tick) in
     let eight : List ℕ = bytesOf 8 (r .left) in
-    let s : List ℕ = one ++ (four ++ (eight ++ (bytesOf 8 (r .right) ++ post))) in
+    let other : List ℕ = bytesOf 8 (r .right) in
+    let s : List ℕ = one ++ (four ++ (eight ++ (other ++ (bytesOf 2 (r .tried) ++ post)))) in
     let parts : recordBytes r ++ post ≡ s = rw (record-parts r) (simp append-assoc) in
     let n₁ = length-bytes 1 (r .code) in
     let n₂ = length-bytes 4 (r .tick) in
     let n₃ = length-bytes 8 (r .left) in
+    let n₄ = length-bytes 8 (r .right) in
     let c : numberAt 1 (pre ++ s) (recordSize * k) ≡ r .code = number-back 1 (r .code) pre _ _ (sym e) (fits .code-fits) in
     let t = number-on 4 1 _ pre s e ∙ number-on 4 0 1 one _ n₁ ∙ number-front 4 (r .tick) _ (fits .tick-fits) in
     let l = number-on 8 5 _ pre s e ∙ number-on 8 4 1 one _ n₁ ∙ number-on 8 0 4 four _ n₂ ∙ number-front 8 (r .left) _ (fits .left-fits) in
-    let m = number-on 8 13 _ pre s e ∙ number-on 8 12 1 one _ n₁ ∙ number-on 8 8 4 four _ n₂ ∙ number-on 8 0 8 eight _ n₃ ∙ number-front 8 (r .right) post (fits .right-fits) in
-    rw parts (λ i. record { code = c i; tick = t i; left = l i; right = m i })
+    let m = number-on 8 13 _ pre s e ∙ number-on 8 12 1 one _ n₁ ∙ number-on 8 8 4 four _ n₂ ∙ number-on 8 0 8 eight _ n₃ ∙ number-front 8 (r .right) _ (fits .right-fits) in
+    let q =
+    number-on 2 21 _ pre s e ∙ number-on 2 20 1 one _ n₁ ∙ number-on 2 16 4 four _ n₂ ∙ number-on 2 8 8 eight _ n₃ ∙ number-on 2 0 8 other _ n₄
+    ∙ number-front 2 (r .tried) post (fits .tried-fits) in
+    rw parts (λ i. record { code = c i; tick = t i; left = l i; right = m i; tried = q i })
 
 pub records-back : (b : List ℕ) (f : ℕ → Record) (n k : ℕ) → k < n → Fits (f k) → recordIn (put b 0 (recordsTo f n)) k ≡ f k
 unfolding put

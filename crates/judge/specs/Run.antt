@@ -1,10 +1,12 @@
 -- The run over a book: its answer and the lent bytes afterwards. Document 01: "it hands over a book and a verdict
 -- buffer and gets back the refusal or the totals, as one 64-bit number: refusal number + 2^8 * place + 2^24 *
 -- accepted + 2^36 * refuted + 2^48 * not judged"; "Last, 14: a sound book has more claims than the lent buffer has room
--- for (21 bytes each), place 0. A refusal gives number and place with all totals 0 and writes nothing. On success
--- number and place are 0, the first 21 bytes per claim are written and the rest stays."
+-- for [..], place 0. A refusal gives number and place with all totals 0 and writes nothing. On success number and place
+-- are 0, the first [..] bytes per claim are written and the rest stays." Document 02, A3: "Refusal 14 and the unwritten
+-- rest of the buffer are now reckoned with 23."
 --
---     recordAt s c k       the record on claim k of a sound book; verdictAt, codeAt: its verdict and its code
+--     claimAt s c k        claim k of a sound book; recordAt, verdictAt, codeAt: the record on it, its verdict and its
+--                          code
 --     admitted s room      what a book is to a buffer of so many bytes: sound, or refused for itself or for want of
 --                          room (admittedOn); Room: there is enough
 --     answerOf s b         the answer, by answerOn: refusedWord, or the totals (totalsOn)
@@ -14,27 +16,33 @@ use Prim.Native.Nat.{ℕ, _*_, _≤_, _<_}
 use mathlib.Core.Path.{_≡_, sym, ap, _∙_}
 use mathlib.Core.Bool.{true, false}
 use mathlib.Core.List.{List}
+use mathlib.Core.Option.{Option}
 use lib.ListN.{length, getD}
 use lib.Dec.{ltb}
 use borrow.Author.Tests.{lt-ltb, le-ltb}
-use Rattle.minplus.specs.Verdict.{Record, Verdict, recordOf}
+use Rattle.minplus.specs.Claim.{Claim}
+use Rattle.minplus.specs.Verdict.{Record, Verdict}
 use Rattle.numbers.specs.Put.{put}
 use Rattle.content.specs.declared.Refusal.{Refusal}
 use Rattle.content.specs.declared.Refusal.the-variants.{NoRoom}
 use Rattle.content.specs.Refusals.{numberOf}
 use Rattle.book.specs.Reading.{Contents, Read, sound, refused, readBook}
 use Rattle.judge.specs.declared.Totals.{Totals}
-use Rattle.judge.specs.Claims.{verdictIn}
+use Rattle.judge.specs.Claims.{claimRead, recordFor, verdictFor}
 use Rattle.judge.specs.Answer.{answerWith, recordSize}
 use Rattle.judge.specs.Records.{recordsTo}
 use Rattle.judge.specs.Totals.{totalsTo, totalsWord}
 
+unfoldable pub claimAt : List ℕ → Contents → ℕ → Option Claim
+unfolding claimRead
+claimAt s c k = claimRead s (c .curves) (length (c .curves)) (getD (c .claims) k 0)
+
 unfoldable pub verdictAt : List ℕ → Contents → ℕ → Verdict
-unfolding verdictIn
-verdictAt s c k = verdictIn s (c .curves) (length (c .curves)) (getD (c .claims) k 0)
+unfolding claimAt verdictFor
+verdictAt s c k = verdictFor (claimAt s c k)
 
 abbrev pub recordAt : List ℕ → Contents → ℕ → Record
-recordAt s c k = recordOf (verdictAt s c k)
+recordAt s c k = recordFor (claimAt s c k)
 
 abbrev pub codeAt : List ℕ → Contents → ℕ → ℕ
 codeAt s c k = recordAt s c k .code
@@ -49,7 +57,7 @@ admitted s room = admittedOn (readBook s) room
 
 -- "a refusal gives .. all totals 0"
 unfoldable pub totalsOn : List ℕ → Read → Totals
-unfolding totalsTo verdictAt recordOf
+unfolding totalsTo claimAt recordFor
 totalsOn s (refused x p) = record { accepted = 0; refuted = 0; unjudged = 0 }
 totalsOn s (sound c) = totalsTo (codeAt s c) (length (c .claims))
 
@@ -62,7 +70,7 @@ answerOn s (refused x p) = refusedWord x p
 answerOn s (sound c) = totalsWord (totalsOn s (sound c))
 
 unfoldable pub bufferOn : List ℕ → List ℕ → Read → List ℕ
-unfolding put recordsTo verdictAt recordOf
+unfolding put recordsTo claimAt recordFor
 bufferOn s b (refused x p) = b
 bufferOn s b (sound c) = put b 0 (recordsTo (recordAt s c) (length (c .claims)))
 

@@ -7,21 +7,24 @@
 --                             than a book may have
 --     together                their sum
 --     totalsWord              as an answer
---     totals-add-up           of verdicts they add up
+--     totals-add-up           of the records on claims they add up
 --     count-all               all are such exactly when as many are
 --     each-code               one record of each code: one accepted, three refuted, one not judged, as an answer
 use Prim.Native.Nat.{ℕ, zero, suc, _+_, _*_, _^_, _≤_, _<_}
 use mathlib.Core.Path.{_≡_, refl}
 use mathlib.Core.Logic.{_↔_}
 use mathlib.Core.Bool.{Bool, true, false, _||_}
+use mathlib.Core.Option.{Option, none, some}
 use native.Mathlib.Omega.{arith}
 use native.Mathlib.Numerals.{add-one}
 use borrow.Author.Count.{below-more}
 use lib.Dec.{eqb}
-use Rattle.minplus.specs.Verdict.{Verdict, accepted, refutedAt, refutedByRate, notLeast, notJudged, recordOf}
+use Rattle.minplus.specs.Claim.{Claim}
+use Rattle.minplus.specs.Verdict.{Verdict, accepted, refutedAt, refutedByRate, notLeast, notJudged, recordWith, ticksTried, verdict}
 use Rattle.field.specs.Steps.{maxClaims}
 use Rattle.judge.specs.declared.Totals.{Totals}
 use Rattle.judge.specs.Answer.{answerWith}
+use Rattle.judge.specs.Claims.{recordFor}
 
 abbrev pub isAccepted : ℕ → Bool
 isAccepted code = eqb code 1
@@ -70,18 +73,23 @@ pub totals-more : (codes : ℕ → ℕ) (n : ℕ) → counted (totalsTo codes n)
 unfolding counted totalsTo
 totals-more codes n = rw (add-one n)
 
-pub totals-add-up : (f : ℕ → Verdict) (n : ℕ) → together (totalsTo (λ k. recordOf (f k) .code) n) ≡ n
-unfolding totalsTo recordOf
+pub totals-add-up : (f : ℕ → Option Claim) (n : ℕ) → together (totalsTo (λ k. recordFor (f k) .code) n) ≡ n
+unfolding totalsTo recordFor
 totals-add-up f zero = refl
 totals-add-up f (suc n) = go (f n) _ _ _ (totals-add-up f n)
   where
-    go : (v : Verdict) (a b c : ℕ) → a + b + c ≡ n
-        → more (isAccepted (recordOf v .code)) a + more (isRefuted (recordOf v .code)) b + more (isUnjudged (recordOf v .code)) c ≡ suc n
-    go accepted a b c e = omega (arith, e)
-    go (refutedAt tick left right) a b c e = omega (arith, e)
-    go refutedByRate a b c e = omega (arith, e)
-    go notLeast a b c e = omega (arith, e)
-    go notJudged a b c e = omega (arith, e)
+    by-verdict : (v : Verdict) (count : ℕ) (a b c : ℕ) → a + b + c ≡ n
+        → more (isAccepted (recordWith v count .code)) a + more (isRefuted (recordWith v count .code)) b + more (isUnjudged (recordWith v count .code)) c ≡ suc n
+    by-verdict accepted count a b c e = omega (arith, e)
+    by-verdict (refutedAt tick left right) count a b c e = omega (arith, e)
+    by-verdict refutedByRate count a b c e = omega (arith, e)
+    by-verdict notLeast count a b c e = omega (arith, e)
+    by-verdict notJudged count a b c e = omega (arith, e)
+
+    go : (o : Option Claim) (a b c : ℕ) → a + b + c ≡ n
+        → more (isAccepted (recordFor o .code)) a + more (isRefuted (recordFor o .code)) b + more (isUnjudged (recordFor o .code)) c ≡ suc n
+    go none a b c e = by-verdict notJudged 0 a b c e
+    go (some x) a b c e = by-verdict (verdict x) (ticksTried x (verdict x)) a b c e
 
 -- of n codes no more than n are such; if n are, each is
 count-most : (p : ℕ → Bool) (codes : ℕ → ℕ) (n : ℕ) → countTo p codes n ≤ n

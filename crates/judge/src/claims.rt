@@ -2,19 +2,19 @@
 ghost use mathlib.Core.Path.{_≡_};
 ghost use Prim.Native.Nat.{_≤_};
 ghost use lib.ListN.{length};
-ghost use Rattle.minplus.specs.Verdict.{recordOf};
 ghost use Rattle.splits.specs.Parts.{workRoom};
 ghost use Rattle.verdict.specs.Given.{numbersOf};
 ghost use Rattle.content.specs.Refusals.{claimField};
 ghost use Rattle.field.specs.Fields.{contentAt};
-ghost use Rattle.judge.specs.Kept.{ClaimReady, formsRoom, risesRoom, verdictKept};
+ghost use Rattle.judge.specs.Claims.{recordFor};
+ghost use Rattle.judge.specs.Kept.{ClaimReady, claimKept, formsRoom, risesRoom};
 use crate::curves::form_at;
 use crate::curves::rises_at;
 use content::ClaimField;
 use field::places::claim_at;
 use verdict::Record;
-use verdict::Verdict;
 use verdict::record_of;
+use verdict::untried;
 use verdict::verdict_over;
 
 // The record on the claim whose field is at `place`, in a book of so many curves. Left and right are said to be the
@@ -28,10 +28,10 @@ pub(crate) fn record_at(
     work: &mut [u32],
 ) -> Record
     requires { ⌜ ClaimReady (now forms) (now rises) (claimField curves (contentAt (now book) place)) × (length (now forms) ≡ formsRoom) × (length (now rises) ≡ risesRoom) × (workRoom ≤ length (now work)) ⌝ }
-    ensures { λ r. ⌜ numbersOf r ≡ recordOf (verdictKept (now (forms .entry)) (now (rises .entry)) (claimField curves (contentAt (now (book .entry)) place))) ⌝ }
+    ensures { λ r. ⌜ numbersOf r ≡ recordFor (claimKept (now (forms .entry)) (now (rises .entry)) (claimField curves (contentAt (now (book .entry)) place))) ⌝ }
 {
     let ClaimField::Stated(stated) = claim_at(book, place, curves) else {
-        return record_of(Verdict::NotJudged);
+        return record_of(untried());
     };
     let claim = stated.claim;
     let left = stated.left;
@@ -40,7 +40,7 @@ pub(crate) fn record_at(
     let f = form_at(forms, left);
     let g = form_at(forms, right);
     let h = form_at(forms, claimed);
-    let verdict = verdict_over(
+    let decided = verdict_over(
         claim,
         left == right,
         f,
@@ -51,5 +51,5 @@ pub(crate) fn record_at(
         rises_at(rises, claimed),
         work,
     );
-    record_of(verdict)
+    record_of(decided)
 }

@@ -23,8 +23,8 @@ pub struct Totals {
 }
 
 impl Totals {
-    // A record's bytes: code, tick (4), left value (8), right value (8).
-    pub const RECORD: usize = 21;
+    // A record's bytes: code, tick (4), left value (8), right value (8), ticks tried (2).
+    pub const RECORD: usize = 23;
 }
 
 // The answer is the refusal's number + 2^8 * its place, or else 2^24 * accepted + 2^36 * refuted + 2^48 * not judged. A

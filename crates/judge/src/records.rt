@@ -18,14 +18,15 @@ use book::Book;
 use numbers::put;
 use splits::WORK;
 
-fn put_record(out: &mut [u8], at: usize, code: u64, tick: u64, left: u64, right: u64)
+fn put_record(out: &mut [u8], at: usize, code: u64, tick: u64, left: u64, right: u64, tried: u64)
     requires { ⌜ at + recordSize ≤ length (now out) ⌝ }
-    ensures { λ _. ⌜ now (out .exit) ≡ putAt (now (out .entry)) at (recordBytes (record { code = code; tick = tick; left = left; right = right })) ⌝ }
+    ensures { λ _. ⌜ now (out .exit) ≡ putAt (now (out .entry)) at (recordBytes (record { code = code; tick = tick; left = left; right = right; tried = tried })) ⌝ }
 {
     put(out, at, 1, code);
     put(out, at + 1, 4, tick);
     put(out, at + 5, 8, left);
     put(out, at + 13, 8, right);
+    put(out, at + 21, 2, tried);
 }
 
 pub(crate) fn run(book: &[u8], sound: Book, verdicts: &mut [u8]) -> Totals
@@ -52,6 +53,7 @@ pub(crate) fn run(book: &[u8], sound: Book, verdicts: &mut [u8]) -> Totals
         let tick = told.tick;
         let left = told.left;
         let right = told.right;
+        let tried = told.tried;
         put_record(
             verdicts,
             Totals::RECORD * k,
@@ -59,6 +61,7 @@ pub(crate) fn run(book: &[u8], sound: Book, verdicts: &mut [u8]) -> Totals
             tick.0 as u64,
             left.0,
             right.0,
+            tried.0 as u64,
         );
         totals = counted(totals, told.code);
         k += 1;

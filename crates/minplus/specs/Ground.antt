@@ -14,7 +14,7 @@ use mathlib.Core.Path.{_≡_, refl}
 use Rattle.minplus.specs.Claim.{Claim, atMost, backlog, bounds, convolution, delay, equals, exactly, kindNumber, kindOf, minimum, sum, wellFormedClaim}
 use Rattle.minplus.specs.Curve.{Curve, value, wellFormed}
 use Rattle.minplus.specs.Horizon.{horizon}
-use Rattle.minplus.specs.Verdict.{Verdict, accepted, notJudged, notLeast, recordOf, refutedAt, refutedByRate, tried, verdict}
+use Rattle.minplus.specs.Verdict.{Verdict, accepted, notJudged, notLeast, recordOn, refutedAt, refutedByRate, tried, verdict}
 
 data Question : Type 0 where
   valueOf : Curve → ℕ → Question
@@ -29,16 +29,16 @@ data Question : Type 0 where
 data Answer : Type 0 where
   number : ℕ → Answer
   judged : Verdict → Answer
-  fields : (code tick left right : ℕ) → Answer
+  fields : (code tick left right tried : ℕ) → Answer
   truth : Bool → Answer
 
 answer : Question → Answer
-unfolding value horizon tried verdict recordOf kindNumber kindOf wellFormed wellFormedClaim
+unfolding value horizon tried verdict recordOn kindNumber kindOf wellFormed wellFormedClaim
 answer (valueOf f n) = number (value f n)
 answer (horizonOf c) = number (horizon c)
 answer (triedOf c) = number (tried c)
 answer (verdictOf c) = judged (verdict c)
-answer (recorded c) = let r = recordOf (verdict c) in fields (r .code) (r .tick) (r .left) (r .right)
+answer (recorded c) = let r = recordOn c in fields (r .code) (r .tick) (r .left) (r .right) (r .tried)
 answer (kindOfClaim c) = number (kindNumber (kindOf c))
 answer (formed f) = truth (wellFormed f)
 answer (formedClaim c) = truth (wellFormedClaim c)
@@ -157,12 +157,30 @@ table =
     ∷ kindOfClaim (bounds delay exactly A B 0) is number 5
     ∷ kindOfClaim (bounds backlog atMost A B 0) is number 6
     ∷ kindOfClaim (bounds backlog exactly A B 0) is number 7
-    -- one record for each code
-    ∷ recorded (bounds delay exactly A B 3) is fields 1 0 0 0
-    ∷ recorded (bounds delay atMost A B 2) is fields 2 1 4 2
-    ∷ recorded (bounds delay atMost B A 0) is fields 3 0 0 0
-    ∷ recorded (bounds delay exactly A B 4) is fields 4 0 0 0
-    ∷ recorded (equals sum (flat 0 61 0) (flat 0 67 0) (flat 10 1 0)) is fields 5 0 0 0
+    -- one record for each code, with the ticks tried: of code 1 the horizon plus 1 in kinds 1 to 3 (3, 8 and 6),
+    ∷ recorded (equals sum A B (curve 2 1 3 (0 ∷ 4 ∷ 5 ∷ []))) is fields 1 0 0 0 4
+    ∷ recorded (equals minimum A B minAB) is fields 1 0 0 0 9
+    ∷ recorded (equals convolution A B convAB) is fields 1 0 0 0 7
+    -- the horizon, 3, in kinds 4 to 7, where the test of X-1 is not counted,
+    ∷ recorded (bounds delay atMost A B 3) is fields 1 0 0 0 3
+    ∷ recorded (bounds delay exactly A B 3) is fields 1 0 0 0 3
+    ∷ recorded (bounds backlog atMost A B 5) is fields 1 0 0 0 3
+    ∷ recorded (bounds backlog exactly A B 5) is fields 1 0 0 0 3
+    -- and at the limit one more than it
+    ∷ recorded (equals sum (flat 0 61 0) (flat 0 67 0) (flat 9 1 0)) is fields 1 0 0 0 4_097
+    -- of code 2 the named tick plus 1: at tick 0, between, and at the last, which is the horizon in kinds 1 to 3
+    ∷ recorded (equals sum A B (flat 0 1 1)) is fields 2 0 0 1 1
+    ∷ recorded (bounds backlog atMost (curve 0 1 2 (5 ∷ [])) line 4) is fields 2 0 5 4 1
+    ∷ recorded (equals minimum A B (flat 0 1 0)) is fields 2 3 2 0 4
+    ∷ recorded (bounds delay atMost A B 2) is fields 2 1 4 2 2
+    ∷ recorded (equals convolution A B (curve 5 1 2 (0 ∷ 0 ∷ 0 ∷ 2 ∷ 4 ∷ 6 ∷ []))) is fields 2 6 7 8 7
+    ∷ recorded (bounds backlog exactly A B 4) is fields 2 2 5 4 3
+    -- of codes 3 and 4 the horizon, and of code 5 none
+    ∷ recorded (bounds delay atMost B A 0) is fields 3 0 0 0 3
+    ∷ recorded (bounds backlog exactly B A 7) is fields 3 0 0 0 3
+    ∷ recorded (bounds delay exactly A B 4) is fields 4 0 0 0 3
+    ∷ recorded (bounds backlog exactly A B 6) is fields 4 0 0 0 3
+    ∷ recorded (equals sum (flat 0 61 0) (flat 0 67 0) (flat 10 1 0)) is fields 5 0 0 0 0
     -- N by itself, under no greater rank of h; not rounded up it would be 2 in the last of these
     ∷ horizonOf (equals minimum A B (flat 0 1 0)) is number 8
     ∷ horizonOf (equals convolution A B (flat 0 1 0)) is number 6

@@ -15,6 +15,7 @@ pub mod Crossing
 pub mod Ranks
 pub mod Exact
 pub mod Delay
+pub mod Recorded
 pub mod Folded
 pub mod Ground
 pub mod Met

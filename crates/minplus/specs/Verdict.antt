@@ -1,15 +1,17 @@
 -- The verdict on a claim, computed by document 01's finite rule, and the numbers of its record.
 --
--- Document 01, 'Verdicts'. Nothing here speaks of ticks beyond the horizon: Exact.antt shows what a verdict says of
--- them.
+-- Document 01, 'Verdicts', and document 02, A3. Nothing here speaks of ticks beyond the horizon: Exact.antt shows what
+-- a verdict says of them.
 --
---     Verdict, recordOf     the five verdicts; the Record of each: code, tick, left and right value
+--     Verdict               the five verdicts
 --     leftAt, rightAt       the two values that the record of a refuted tick holds
 --     breaks, tried         whether a tick breaks the rule; how many ticks, from 0 on, are tried; firstBreak: the first
 --                           of them that does
 --     byRate, lessHolds     the tests of codes 3 and 4
 --     codesInOrder, verdict      the codes in their order
-use Prim.Native.Nat.{ℕ, suc, _-_}
+--     recordOf              the Record of a verdict on a claim: code, tick, left and right value (recordWith), and how
+--                           many ticks were tried for it (ticksTried); recordOn: of the verdict that is due
+use Prim.Native.Nat.{ℕ, suc, _+_, _-_}
 use mathlib.Core.Bool.{Bool, true, false, not}
 use mathlib.Core.Option.{Option, none, some}
 use lib.Dec.{ltb, eqb}
@@ -24,21 +26,6 @@ pub data Verdict : Type 0 where
   refutedByRate : Verdict
   notLeast : Verdict
   notJudged : Verdict
-
--- "A record is 21 bytes: code, tick (4 bytes), left value (8), right value (8)": its four numbers
-pub record Record : Type 0 where
-  pub code : ℕ
-  pub tick : ℕ
-  pub left : ℕ
-  pub right : ℕ
-
--- "For other codes the twenty bytes are 0."
-unfoldable pub recordOf : Verdict → Record
-recordOf accepted = record { code = 1; tick = 0; left = 0; right = 0 }
-recordOf (refutedAt tick left right) = record { code = 2; tick = tick; left = left; right = right }
-recordOf refutedByRate = record { code = 3; tick = 0; left = 0; right = 0 }
-recordOf notLeast = record { code = 4; tick = 0; left = 0; right = 0 }
-recordOf notJudged = record { code = 5; tick = 0; left = 0; right = 0 }
 
 -- "in kinds 1 to 3, left is the due value and right is h; in 4 and 5, f(s) and g(s+X); in 6 and 7, f(s) and g(s)+X"
 unfoldable pub leftAt : Claim → ℕ → ℕ
@@ -98,3 +85,38 @@ verdict c =
     let at = firstBreak c in
     let less = lessHolds c in
     codesInOrder c (ltb maxHorizon (horizon c)) at (byRate c) less
+
+-- "code, tick (4 bytes), left value (8), right value (8)", and "two bytes at the end with the number of ticks tried":
+-- its five numbers
+pub record Record : Type 0 where
+  pub code : ℕ
+  pub tick : ℕ
+  pub left : ℕ
+  pub right : ℕ
+  pub tried : ℕ
+
+-- "For other codes the twenty bytes are 0.": those of the tick and of the two values
+unfoldable pub recordWith : Verdict → (count : ℕ) → Record
+recordWith accepted count = record { code = 1; tick = 0; left = 0; right = 0; tried = count }
+recordWith (refutedAt tick left right) count = record { code = 2; tick = tick; left = left; right = right; tried = count }
+recordWith refutedByRate count = record { code = 3; tick = 0; left = 0; right = 0; tried = count }
+recordWith notLeast count = record { code = 4; tick = 0; left = 0; right = 0; tried = count }
+recordWith notJudged count = record { code = 5; tick = 0; left = 0; right = 0; tried = count }
+
+-- "It is the named tick plus 1 for code 2, and 0 for code 5. Else it is the horizon for kinds 4 to 7 and the horizon
+-- plus 1 for kinds 1 to 3. The second test in kinds 5 and 7 isn't counted."
+unfoldable pub ticksTried : Claim → Verdict → ℕ
+unfolding tried
+ticksTried c accepted = tried c
+ticksTried c (refutedAt tick left right) = tick + 1
+ticksTried c refutedByRate = tried c
+ticksTried c notLeast = tried c
+ticksTried c notJudged = 0
+
+unfoldable pub recordOf : Claim → Verdict → Record
+unfolding recordWith ticksTried
+recordOf c v = recordWith v (ticksTried c v)
+
+unfoldable pub recordOn : Claim → Record
+unfolding recordOf verdict
+recordOn c = recordOf c (verdict c)

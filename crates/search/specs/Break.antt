@@ -1,6 +1,6 @@
 -- The first of a claim's tried ticks that breaks its rule.
 --
---     firstOf c tried    the first of so many ticks that breaks the rule, with its two values
+--     firstOf c tried    the first of so many ticks that breaks the rule, with its two values, and the ticks compared
 --     breakOf c          the same of the ticks that are tried
 --     Judgeable          a claim whose curves are lent, with its horizon, which is within the limit
 --     Searched, LessAsked     what the searches of kinds 1 to 3 are given, and what is given where X-1 is asked for
@@ -14,7 +14,7 @@
 --     less-none          X-1 is not asked for where X is 0,
 --     less-nowhere       and elsewhere it is a bound if no tried tick breaks it
 use Prim.Native.Nat.{ℕ, suc, _+_, _-_, _≤_, _<_}
-use mathlib.Core.Path.{_≡_, refl, sym, ap, _∙_}
+use mathlib.Core.Path.{_≡_, refl, ap, _∙_}
 use mathlib.Core.Bool.{Bool, true, false}
 use mathlib.Core.Option.{Option, none, some}
 use native.Mathlib.Omega.{arith}
@@ -31,14 +31,15 @@ use Rattle.curve.specs.declared.Operation as op
 use Rattle.curve.specs.declared.Deviation.the-variants.{Delay, Backlog}
 use Rattle.curve.specs.Steps.{Steps, Lent, curveFrom}
 use Rattle.curve.specs.Claimed.{LentClaim, amountOf, boundOver, claimOver, deviationOf, operationOf}
+use Rattle.search.specs.declared.Compared.{Compared}
 use Rattle.search.specs.declared.Found.{Found}
 use Rattle.search.specs.declared.Found.the-variants.{At, Nowhere}
-use Rattle.search.specs.Found.{foundFrom, foundOf, found-same}
+use Rattle.search.specs.Found.{comparedFrom, comparedOf, found-same}
 
-abbrev pub firstOf : Claim → ℕ → Found
-firstOf c tried = foundOf (breaks c) (leftAt c) (rightAt c) tried
+abbrev pub firstOf : Claim → ℕ → Compared
+firstOf c tried = comparedOf (breaks c) (leftAt c) (rightAt c) tried
 
-abbrev pub breakOf : Claim → Found
+abbrev pub breakOf : Claim → Compared
 breakOf c = firstOf c (tried c)
 
 pub record Judgeable (c : code.Claim) (f g h : Steps) (at : ℕ) : Type 0 where
@@ -75,8 +76,8 @@ abbrev pub allowedBy : Curve → ℕ → ℕ → ℕ → ℕ
 allowedBy g later more s = value g (s + later) + more
 
 -- the first tick at which f is above that
-abbrev pub firstAbove : Curve → Curve → ℕ → ℕ → ℕ → Found
-firstAbove f g later more tried = foundOf (λ s. ltb (allowedBy g later more s) (value f s)) (value f) (allowedBy g later more) tried
+abbrev pub firstAbove : Curve → Curve → ℕ → ℕ → ℕ → Compared
+firstAbove f g later more tried = comparedOf (λ s. ltb (allowedBy g later more s) (value f s)) (value f) (allowedBy g later more) tried
 
 -- what such a search needs in order that all ticks and values fit
 pub record Comparable (f g : Steps) (later more tried : ℕ) : Type 0 where
@@ -146,15 +147,15 @@ module _ (δ : Deviation) (f g : Curve) (X : ℕ) where
   unfolding lessHolds
   less-none e = rw e
 
-  pub less-nowhere : 0 < X → (at : ℕ) → at ≡ horizon (bounds δ exactly f g X) → isNowhere (firstOf (bounds δ atMost f g (X - 1)) at) ≡ lessHolds (bounds δ exactly f g X)
-  unfolding lessHolds firstBreak foundOf tried horizon
+  pub less-nowhere : 0 < X → (at : ℕ) → at ≡ horizon (bounds δ exactly f g X) → isNowhere (firstOf (bounds δ atMost f g (X - 1)) at .found) ≡ lessHolds (bounds δ exactly f g X)
+  unfolding lessHolds firstBreak comparedOf tried horizon
   less-nowhere positive at is =
-      ap isNowhere (ap (firstOf (bounds δ atMost f g (X - 1))) is ∙ first-loosely δ exactly f g (X - 1) (horizon less))
+      ap (λ (x : Compared). isNowhere (x .found)) (ap (firstOf (bounds δ atMost f g (X - 1))) is ∙ first-loosely δ exactly f g (X - 1) (horizon less))
       ∙ rw (lt-ltb 0 X positive, lessHolds) (go (firstBreak less))
     where
       less : Claim
       less = bounds δ exactly f g (X - 1)
 
-      go : (o : Option ℕ) → isNowhere (foundFrom (leftAt less) (rightAt less) o) ≡ elim o as (λ _. Bool) [ none ↦ true | some _ ↦ false ]
+      go : (o : Option ℕ) → isNowhere (comparedFrom (leftAt less) (rightAt less) (tried less) o .found) ≡ elim o as (λ _. Bool) [ none ↦ true | some _ ↦ false ]
       go none = refl
       go (some n) = refl

@@ -7,6 +7,7 @@ ghost use Rattle.curve.specs.Steps.{Lent, curveFrom};
 ghost use Rattle.curve.specs.Held.{heldAs};
 ghost use Rattle.curve.specs.Claimed.{amountOf, boundOver};
 ghost use Rattle.search.specs.Break.{Comparable, firstAbove, firstOf, laterBy, moreBy};
+use crate::Compared;
 use crate::Found;
 use curve::Deviation;
 use curve::Form;
@@ -35,7 +36,7 @@ fn more_by(deviation: Deviation) -> Units
 }
 
 // The first of the `tried` ticks at which f is above what g is so many ticks later, and so many units more. Each of the
-// two is walked over, one rise a tick.
+// two is walked over, one rise a tick. The loop counts the ticks that it compares, the one that it stops at included.
 fn first_above(
     f: Form,
     left: &[u32],
@@ -44,7 +45,7 @@ fn first_above(
     later: Ticks,
     more: Units,
     tried: usize,
-) -> Found
+) -> Compared
     requires { ⌜ Comparable (heldAs f (now left)) (heldAs g (now right)) (later .0) (more .0) tried ⌝ }
     ensures { λ r. ⌜ r ≡ firstAbove (curveFrom (heldAs f (now (left .entry)))) (curveFrom (heldAs g (now (right .entry)))) (later .0) (more .0) tried ⌝ }
 {
@@ -63,13 +64,17 @@ fn first_above(
                 left: value,
                 right: Units(allowed),
             };
+            s += 1;
             break 'ticks;
         }
         arrived = arrived.next(f, left);
         served = served.next(g, right);
         s += 1;
     }
-    found
+    Compared {
+        found,
+        ticks: Ticks(s as u32),
+    }
 }
 
 // The first of the `tried` ticks at which the left value is above the right one.
@@ -80,7 +85,7 @@ pub fn first_over(
     g: Form,
     right: &[u32],
     tried: usize,
-) -> Found
+) -> Compared
     requires { ⌜ Lent (heldAs f (now left)) × Lent (heldAs g (now right)) × (amountOf deviation ≤ maxX) × (tried ≤ maxHorizon) ⌝ }
     ensures { λ r. ⌜ r ≡ firstOf (boundOver deviation atMost (curveFrom (heldAs f (now (left .entry)))) (curveFrom (heldAs g (now (right .entry))))) tried ⌝ }
 {

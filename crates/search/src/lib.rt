@@ -29,6 +29,12 @@ pub enum Found {
     Nowhere,
 }
 
+// What a search comes to: what it found, and how many ticks it compared for that, from 0 on.
+pub struct Compared {
+    pub found: Found,
+    pub ticks: Ticks,
+}
+
 // Kinds 4 to 7: no tried tick breaks the rule.
 fn holds(
     deviation: Deviation,
@@ -39,9 +45,11 @@ fn holds(
     horizon: usize,
 ) -> bool
     requires { ⌜ Lent (heldAs f (now left)) × Lent (heldAs g (now right)) × (amountOf deviation ≤ maxX) × (horizon ≤ maxHorizon) ⌝ }
-    ensures { λ r. ⌜ r ≡ isNowhere (firstOf (boundOver deviation atMost (curveFrom (heldAs f (now (left .entry)))) (curveFrom (heldAs g (now (right .entry))))) horizon) ⌝ }
+    ensures { λ r. ⌜ r ≡ isNowhere (firstOf (boundOver deviation atMost (curveFrom (heldAs f (now (left .entry)))) (curveFrom (heldAs g (now (right .entry))))) horizon .found) ⌝ }
 {
-    match first_over(deviation, f, left, g, right, horizon) {
+    let compared = first_over(deviation, f, left, g, right, horizon);
+    let found = compared.found;
+    match found {
         Found::At { .. } => false,
         Found::Nowhere => true,
     }

@@ -6,6 +6,7 @@ ghost use Rattle.curve.specs.Steps.{curveFrom};
 ghost use Rattle.curve.specs.Held.{heldAs};
 ghost use Rattle.search.specs.Beside.{besideAt, besideOf};
 ghost use Rattle.search.specs.Break.{Searched, firstOf};
+use crate::Compared;
 use crate::Found;
 use curve::Form;
 use curve::Ticks;
@@ -24,7 +25,8 @@ fn beside(minimum: bool, a: u64, b: u64) -> u64
     }
 }
 
-// The first of the `tried` ticks at which h differs from the minimum, or the sum, of f and g.
+// The first of the `tried` ticks at which h differs from the minimum, or the sum, of f and g. The loop counts the ticks
+// that it compares, the one that it stops at included.
 pub fn first_unlike(
     minimum: bool,
     f: Form,
@@ -34,7 +36,7 @@ pub fn first_unlike(
     h: Form,
     claimed: &[u32],
     tried: usize,
-) -> Found
+) -> Compared
     requires { ⌜ Searched (heldAs f (now left)) (heldAs g (now right)) (heldAs h (now claimed)) tried ⌝ }
     ensures { λ r. ⌜ r ≡ firstOf (equals (besideOf minimum) (curveFrom (heldAs f (now (left .entry)))) (curveFrom (heldAs g (now (right .entry)))) (curveFrom (heldAs h (now (claimed .entry))))) tried ⌝ }
 {
@@ -54,6 +56,7 @@ pub fn first_unlike(
                 left: Units(due),
                 right: value,
             };
+            n += 1;
             break 'ticks;
         }
         one = one.next(f, left);
@@ -61,5 +64,8 @@ pub fn first_unlike(
         said = said.next(h, claimed);
         n += 1;
     }
-    found
+    Compared {
+        found,
+        ticks: Ticks(n as u32),
+    }
 }

@@ -15,6 +15,7 @@ use curve::Ticks;
 use curve::Units;
 use curve::values::fill;
 use curve::walks::Walk;
+use search::Compared;
 use search::Found;
 
 // Where the parts of the lent numbers begin. At their front stand f's values, up to the tick from which on no split is
@@ -70,7 +71,8 @@ fn carry(work: &mut [u32], at: usize, added: u32, turn: usize, gain: u32, again:
 // The first of the `tried` ticks at which h differs from the convolution of f and g, whose ranks, periods and
 // increments are passed and whose values stand in the lent numbers. Only splits that g lists are tried, as a later one
 // is carried over g's periods, and of a curve with itself only the smaller half; and from the tick `settled` on, past
-// the first periods of both, none is, as all is what it was a period of f before, and c more.
+// the first periods of both, none is, as all is what it was a period of f before, and c more. The loop counts the ticks
+// that it compares, the one that it stops at included.
 fn first_split(
     itself: bool,
     rank: usize,
@@ -83,7 +85,7 @@ fn first_split(
     claimed: &[u32],
     work: &mut [u32],
     tried: usize,
-) -> Found
+) -> Compared
     requires { ⌜ Foldable itself (leftCurve rank period increment (now work)) (rightCurve start span gain (now work)) (now work) tried × Lent (heldAs h (now claimed)) ⌝ }
     ensures { λ r. ⌜ r ≡ firstOf (equals convolution (leftCurve rank period increment (now (work .entry))) (rightCurve start span gain (now (work .entry))) (curveFrom (heldAs h (now (claimed .entry))))) tried ⌝ }
 {
@@ -148,6 +150,7 @@ fn first_split(
                 left: Units(due as u64),
                 right: value,
             };
+            n += 1;
             break 'ticks;
         }
         walk = walk.next(h, claimed);
@@ -158,7 +161,10 @@ fn first_split(
         }
         n += 1;
     }
-    found
+    Compared {
+        found,
+        ticks: Ticks(n as u32),
+    }
 }
 
 // A curve's first values, in a part of the lent numbers.
@@ -180,7 +186,7 @@ pub fn first_apart(
     claimed: &[u32],
     tried: usize,
     work: &mut [u32],
-) -> Found
+) -> Compared
     requires { ⌜ Searched (heldAs f (now left)) (heldAs g (now right)) (heldAs h (now claimed)) tried × (itself ≡ true → heldAs f (now left) ≡ heldAs g (now right)) × (workRoom ≤ length (now work)) ⌝ }
     ensures { λ r. ⌜ r ≡ firstOf (equals convolution (curveFrom (heldAs f (now (left .entry)))) (curveFrom (heldAs g (now (right .entry)))) (curveFrom (heldAs h (now (claimed .entry))))) tried ⌝ }
 {

@@ -1,30 +1,40 @@
 -- What the code answers, in the words of the crate minplus.
 --
---     verdictOf             the verdict; no two of the code's are one (verdict-one-to-one)
---     numbersOf             the numbers of a record
---     judgedOf              the answer on a claim: a verdict, or none
---     judgement             what it has to be: none for a claim that is not well formed (judgement-none), else its
---                           verdict (judgement-some)
---     verdict-far           which is "not judged" beyond the limit,
---     ordered, verdict-near     and within it goes by what the tests find, in the order of the codes
+--     verdictOf, numbersOf     the verdict, and the numbers of a record
+--     decidedOf                the record of a verdict and the ticks tried for it
+--     judgedOf                 the answer on a claim: such a record, or none
+--     judgement                what it has to be: none for a claim that is not well formed (judgement-none), else its
+--                              record (judgement-some)
+--     record-far               which is "not judged" beyond the limit, with no tick tried,
+--     ordered, record-near     and within it goes by what the tests find, in the order of the codes, with as many ticks
+--                              as the search has compared
+--     laterCode                the codes after the first break (later, later-is); IsLater, LaterAsked: of two curves,
+--                              and what they ask (later-asked)
 use Prim.Native.Nat.{ℕ, _≤_, _<_}
-use mathlib.Core.Path.{_≡_, refl, sym, ap, _∙_}
+use mathlib.Core.Path.{_≡_, refl, ap₂}
 use mathlib.Core.Bool.{Bool, true, false}
 use mathlib.Core.Option.{Option, none, some}
 use borrow.Author.Tests.{lt-ltb, le-ltb}
+use Rattle.minplus.specs.Curve.{Curve}
 use Rattle.minplus.specs.Claim.{Claim, wellFormedClaim}
 use Rattle.minplus.specs.Horizon.{horizon, maxHorizon}
 use Rattle.minplus.specs.Verdict as C
-use Rattle.minplus.specs.Verdict.{accepted, byRate, firstBreak, codesInOrder, leftAt, lessHolds, notJudged, notLeast, refutedAt, refutedByRate, rightAt, verdict}
+use Rattle.minplus.specs.Verdict.{accepted, byRate, codesInOrder, firstBreak, leftAt, lessHolds, notJudged, notLeast, recordOf, recordOn, recordWith, refutedAt, refutedByRate, rightAt, tried, verdict}
+use Rattle.curve.specs.declared.Claim as code
+use Rattle.curve.specs.declared.Claim.the-variants.{Equals, AtMost, Exactly}
+use Rattle.curve.specs.Steps.{Steps}
+use Rattle.curve.specs.Claimed.{claimOver}
 use Rattle.verdict.specs.declared.Verdict.{Verdict}
 use Rattle.verdict.specs.declared.Verdict.the-variants.{Accepted, RefutedAt, RefutedByRate, NotLeast, NotJudged}
+use Rattle.verdict.specs.declared.Decided.{Decided}
 use Rattle.verdict.specs.declared.Judged.{Judged}
 use Rattle.verdict.specs.declared.Judged.the-variants as Judged
 use Rattle.verdict.specs.declared.Record.{Record}
+use Rattle.search.specs.declared.Compared.{Compared}
 use Rattle.search.specs.declared.Found.{Found}
 use Rattle.search.specs.declared.Found.the-variants.{At, Nowhere}
-use Rattle.search.specs.Found.{foundFrom, foundOf}
-use Rattle.search.specs.Break.{breakOf}
+use Rattle.search.specs.Found.{comparedFrom, comparedOf}
+use Rattle.search.specs.Break.{Judgeable, LessAsked, breakOf}
 
 abbrev pub verdictOf : Verdict → C.Verdict
 verdictOf Accepted = accepted
@@ -34,62 +44,76 @@ verdictOf NotLeast = notLeast
 verdictOf NotJudged = notJudged
 
 abbrev pub numbersOf : Record → C.Record
-numbersOf r = record { code = r .code; tick = r .tick .0; left = r .left .0; right = r .right .0 }
+numbersOf r = record { code = r .code; tick = r .tick .0; left = r .left .0; right = r .right .0; tried = r .tried .0 }
 
-abbrev pub judgedOf : Judged → Option C.Verdict
-judgedOf (Judged.Verdict v) = some (verdictOf v)
+abbrev pub decidedOf : Decided → C.Record
+decidedOf d = recordWith (verdictOf (d .verdict)) (d .tried .0)
+
+abbrev pub judgedOf : Judged → Option C.Record
+judgedOf (Judged.Decided d) = some (decidedOf d)
 judgedOf Judged.IllFormed = none
 
-unfoldable pub judgement : Claim → Option C.Verdict
-unfolding wellFormedClaim verdict
-judgement c = elim (wellFormedClaim c) [ true ↦ some (verdict c) | false ↦ none ]
+unfoldable pub judgement : Claim → Option C.Record
+unfolding wellFormedClaim recordOn
+judgement c = elim (wellFormedClaim c) [ true ↦ some (recordOn c) | false ↦ none ]
+
+-- codes 3, 4 and 1, where no tried tick breaks the rule
+abbrev pub later : (rate less : Bool) → C.Verdict
+later true less = refutedByRate
+later false true = notLeast
+later false false = accepted
+
+abbrev pub laterCode : Claim → C.Verdict
+laterCode c = later (byRate c) (lessHolds c)
+
+-- the claimed curve of kinds 1 to 3 has no part in them
+abbrev pub IsLater : C.Verdict → code.Claim → Curve → Curve → Type 0
+IsLater v claim f g = (h : Curve) → v ≡ laterCode (claimOver claim f g h)
+
+-- kinds 5 and 7 alone ask for anything: whether X-1 is a bound
+abbrev pub LaterAsked : code.Claim → Steps → Steps → ℕ → Type 0
+LaterAsked (Equals o) f g at = Unit {0}
+LaterAsked (AtMost x) f g at = Unit {0}
+LaterAsked (Exactly x) f g at = LessAsked x f g at
+
+abbrev by : Found → (rate less : Bool) → C.Verdict
+by (At tick left right) rate less = refutedAt (tick .0) (left .0) (right .0)
+by Nowhere rate less = later rate less
+
+abbrev pub ordered : Found → Claim → C.Verdict
+ordered found c = by found (byRate c) (lessHolds c)
 
 -- ---- laws
-
-unverdict : C.Verdict → Verdict
-unverdict accepted = Accepted
-unverdict (refutedAt tick left right) = RefutedAt (record { 0 = tick }) (record { 0 = left }) (record { 0 = right })
-unverdict refutedByRate = RefutedByRate
-unverdict notLeast = NotLeast
-unverdict notJudged = NotJudged
-
-pub verdict-one-to-one : (v w : Verdict) → verdictOf v ≡ verdictOf w → v ≡ w
-unfolding unverdict
-verdict-one-to-one v w e = sym (back v) ∙ ap unverdict e ∙ back w
-  where
-    back : (v : Verdict) → unverdict (verdictOf v) ≡ v
-    back Accepted = refl
-    back (RefutedAt tick left right) = refl
-    back RefutedByRate = refl
-    back NotLeast = refl
-    back NotJudged = refl
 
 pub judgement-none : (c : Claim) → wellFormedClaim c ≡ false → none ≡ judgement c
 unfolding judgement
 judgement-none c e = rw (e, judgement)
 
-pub judgement-some : (c : Claim) → wellFormedClaim c ≡ true → some (verdict c) ≡ judgement c
+pub judgement-some : (c : Claim) → wellFormedClaim c ≡ true → some (recordOn c) ≡ judgement c
 unfolding judgement
 judgement-some c e = rw (e, judgement)
 
-pub verdict-far : (c : Claim) → maxHorizon < horizon c → notJudged ≡ verdict c
-unfolding verdict
-verdict-far c far = rw (lt-ltb maxHorizon (horizon c) far)
+pub record-far : (c : Claim) → maxHorizon < horizon c → recordWith notJudged 0 ≡ recordOn c
+unfolding recordOn
+record-far c far = rw (lt-ltb maxHorizon (horizon c) far)
 
-abbrev pub ordered : Found → Bool → Bool → C.Verdict
-ordered (At tick left right) rate less = refutedAt (tick .0) (left .0) (right .0)
-ordered Nowhere true less = refutedByRate
-ordered Nowhere false true = notLeast
-ordered Nowhere false false = accepted
-
-pub verdict-near : (c : Claim) → horizon c ≤ maxHorizon → (found : Found) (rate less : Bool)
-    → found ≡ breakOf c → rate ≡ byRate c → less ≡ lessHolds c → ordered found rate less ≡ verdict c
-unfolding verdict foundOf firstBreak
-verdict-near c near found rate less e e′ e″ =
-    rw (le-ltb maxHorizon (horizon c) near, e, e′, e″) (go (firstBreak c) (byRate c) (lessHolds c))
+pub record-near : (c : Claim) → horizon c ≤ maxHorizon → {compared : Compared} → compared ≡ breakOf c
+    → recordWith (ordered (compared .found) c) (compared .ticks .0) ≡ recordOn c
+unfolding recordOn comparedOf
+record-near c near e = rw (e, le-ltb maxHorizon (horizon c) near) (go (firstBreak c) (byRate c) (lessHolds c))
   where
-    go : (o : Option ℕ) (rate less : Bool) → ordered (foundFrom (leftAt c) (rightAt c) o) rate less ≡ codesInOrder c false o rate less
+    go : (o : Option ℕ) (rate less : Bool)
+        → (let x = comparedFrom (leftAt c) (rightAt c) (tried c) o in recordWith (by (x .found) rate less) (x .ticks .0) ≡ recordOf c (codesInOrder c false o rate less))
     go (some n) rate less = refl
     go none true less = refl
     go none false true = refl
     go none false false = refl
+
+-- from what the tests on the way found; a test that is not reached is handed on as it stands
+pub later-is : (c : Claim) (rate less : Bool) → rate ≡ byRate c → less ≡ lessHolds c → later rate less ≡ laterCode c
+later-is c rate less e e′ = ap₂ later e e′
+
+pub later-asked : (c : code.Claim) {f g h : Steps} {at : ℕ} → Judgeable c f g h at → LaterAsked c f g at
+later-asked (Equals o) j = tt
+later-asked (AtMost x) j = tt
+later-asked (Exactly x) j = record { left = j .lent .0; right = j .lent .1; x-fits = j .lent .2; is-horizon = j .is-horizon; within = j .within }

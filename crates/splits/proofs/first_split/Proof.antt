@@ -21,8 +21,9 @@ use Rattle.curve.specs.Held.{heldAs}
 use Rattle.curve.specs.declared.walks.Walk.{Walk}
 use Rattle.curve.specs.Walks.{walk-able, walk-next, walk-starts}
 use Rattle.search.specs.declared.Found.the-variants.{Nowhere}
-use Rattle.search.specs.Found.{found-at, found-nowhere}
-use Rattle.splits.specs.Parts.{rightPart, nearPart, lastPart, workRoom}
+use Rattle.search.specs.Found.{found-at, found-nowhere, ticks-few}
+use Rattle.search.specs.Break.{firstOf}
+use Rattle.splits.specs.Parts.{rightPart, nearPart, workRoom}
 use Rattle.splits.specs.Periods.{added-fits, Placed, Turned, turned-back, turned-next, turned-early, placed-back, placed-next}
 use Rattle.splits.specs.Reach.{due-early, due-late, late-first, late-inside, late-soon, lastOf, lateOf, nearOf, reach-inside, reachOf}
 use Rattle.splits.specs.Splits.{leftCurve, rightCurve, settledOf, Foldable, Folds, Holds, LeastUpTo, folds-none, split-fits, split-least, all-tried, near-stored, near-settled, last-stored, last-settled, near-is, near-fits, carries, kept-next, kept-before, carried-is, from-first, from-next}
@@ -372,6 +373,9 @@ add-turn c = omega arith
 cast-t81 : tie.Need-cast-t81 Inv-loop μ-loop Inv-loop2 μ-loop2 Inv-ticks μ-ticks
 cast-t81 c = omega arith
 
+add-n : tie.Need-add-n Inv-loop μ-loop Inv-loop2 μ-loop2 Inv-ticks μ-ticks
+add-n c = omega arith
+
 -- after what is carried: it is due, and stands where the next period looks for it
 due-8 : (c : tie.Joined8 Inv-loop μ-loop Inv-loop2 μ-loop2 Inv-ticks μ-ticks) → let t = c .before .before .before .before .before .before .before .before .before in c .if8 .due ≡ conv (value (f t)) (value (g t)) (tick t)
 due-8 c =
@@ -424,8 +428,8 @@ add-added c =
     let t = c .before .before .before .before .before .before .before .before .before in
     omega (arith, ok t .gain-fits, ok t .within, added-fits (folds t .placed) (ok t .left-period) (ok t .gain-fits))
 
-add-n : tie.Need-add-n Inv-loop μ-loop Inv-loop2 μ-loop2 Inv-ticks μ-ticks
-add-n c = omega arith
+add-n-2 : tie.Need-add-n-2 Inv-loop μ-loop Inv-loop2 μ-loop2 Inv-ticks μ-ticks
+add-n-2 c = omega arith
 
 ticks-less : tie.Need-ticks-less Inv-loop μ-loop Inv-loop2 μ-loop2 Inv-ticks μ-ticks
 ticks-less c = omega arith
@@ -447,25 +451,37 @@ ticks-again c =
       (record { kept = kept-4 j; placed = placed; turned = turned-4 j; walked = walked }, below-more _ _ (l .inv .1 .1) (rw (eq-eqb _ _ equal))),
     )
 
+-- what the loop is left with, on either way: the ticks that were compared, and as many numbers as were lent
+ended : (c : tie.Left-ticks Inv-loop μ-loop Inv-loop2 μ-loop2 Inv-ticks μ-ticks) → let a = c .before .before .before .before .before .before .args in
+    record { found = c .ticks-test .found; ticks = record { 0 = c .ticks-test .n } }
+    ≡ firstOf (equals convolution (leftCurve (a .rank) (a .period) (a .increment) (now (a .work))) (rightCurve (a .start) (a .span) (a .gain) (now (a .work))) (curveFrom (heldAs (a .h) (now (a .claimed))))) (a .tried)
+unfolding breaks leftAt rightAt due
+ended c =
+    let l = c .before .ticks in
+    ⊎-elim (λ w. found-nowhere _ _ _ _ (w .2 ∙ l .inv .0 .1) (omega (arith, w .0 .left, w .4, l .inv .0 .0)) (λ k lt. l .inv .1 .1 k (omega (arith, lt, w .0 .left))))
+    (λ w.
+    let t : Tick = record { before = record { before = c .before; ticks-test = w .0 }; reach = w .1 } in
+    let e = due-4 (record { before = record { before = record { before = t; if1 = w .2 }; slice-known6 = w .3 }; if4 = w .4 }) in
+    let value-is = ap (λ (v : Walk). v .value .0) (folds t .walked) in
+    found-at _ _ _ _ (l .n) (w .10) (w .12) e value-is (l .inv .1 .1)
+    (rw (ne-eqb _ _ (λ same. w .8 .taken (e ∙ same ∙ sym value-is)))) (w .0 .taken)) (c .ticks-test .came)
+
+cast-t85 : tie.Need-cast-t85 Inv-loop μ-loop Inv-loop2 μ-loop2 Inv-ticks μ-ticks
+cast-t85 c =
+    let e = ended (c .before) in
+    omega (arith, ticks-few _ _ _ _ e, c .before .before .before .before .before .before .before .pre .0 .within)
+
 same-length : tie.Need-same-length Inv-loop μ-loop Inv-loop2 μ-loop2 Inv-ticks μ-ticks
-same-length c = omega arith
+same-length c =
+    let l = c .before .before in
+    ⊎-elim (λ w. omega (arith, ap (length {A = ℕ}) (w .1), l .ticks .inv .1 .0 .kept .same-length))
+    (λ w.
+    let t : Tick = record { before = record { before = l; ticks-test = w .0 }; reach = w .1 } in
+    let kept = kept-4 (record { before = record { before = record { before = t; if1 = w .2 }; slice-known6 = w .3 }; if4 = w .4 }) in
+    omega (arith, ap (length {A = ℕ}) (w .9), kept .same-length)) (c .before .ticks-test .came)
 
 returns : tie.Need-returns Inv-loop μ-loop Inv-loop2 μ-loop2 Inv-ticks μ-ticks
-returns c =
-    let t = c .before .ticks in
-    t .inv .0 .1 ∙ found-nowhere _ _ _ _ (λ k lt. t .inv .1 .1 k (omega arith))
-
-same-length-2 : tie.Need-same-length-2 Inv-loop μ-loop Inv-loop2 μ-loop2 Inv-ticks μ-ticks
-same-length-2 c = omega (arith, kept-4 (c .before .before .before .before) .same-length)
-
-returns-2 : tie.Need-returns-2 Inv-loop μ-loop Inv-loop2 μ-loop2 Inv-ticks μ-ticks
-unfolding breaks leftAt rightAt due
-returns-2 c =
-    let t = c .before .before .before .before .before .before .before in
-    let e = due-4 (c .before .before .before .before) in
-    let value-is = ap (λ (w : Walk). w .value .0) (folds t .walked) in
-    found-at _ _ _ _ (tick t) e value-is (t .before .before .ticks .inv .1 .1)
-    (rw (ne-eqb _ _ (λ same. c .if10 .taken (e ∙ same ∙ sym value-is)))) (t .before .ticks-test .taken)
+returns c = ended (c .before)
 
 pub first-split-spec : {M : Type 1} → statement M
 first-split-spec =
@@ -535,14 +551,14 @@ first-split-spec =
     carry-requires
     add-turn
     cast-t81
+    add-n
     next-requires
     add-at
     sub-at
     add-added
-    add-n
+    add-n-2
     ticks-less
     ticks-again
+    cast-t85
     same-length
-    returns
-    same-length-2
-    returns-2)
+    returns)

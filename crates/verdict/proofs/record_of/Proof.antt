@@ -1,6 +1,6 @@
 -- `verdict::record_of` meets its contract.
 use borrow.Author.Needs.{needs}
-use Rattle.minplus.specs.Verdict.{recordOf}
+use Rattle.minplus.specs.Verdict.{recordWith}
 use Rattle.verdict.proofs.record_of.Statement.{statement}
 use Rattle.verdict.proofs.record_of.Tie as tie
 
@@ -10,8 +10,8 @@ enum-told c = search needs
 code-only-requires : tie.Need-code-only-requires
 code-only-requires c κs = search needs
 
-enum-known-v : tie.Need-enum-known-v
-enum-known-v c = search needs
+enum-known-verdict : tie.Need-enum-known-verdict
+enum-known-verdict c = search needs
 
 enum-told-2 : tie.Need-enum-told-2
 enum-told-2 c = search needs
@@ -32,23 +32,23 @@ code-only-requires-4 : tie.Need-code-only-requires-4
 code-only-requires-4 c κs = search needs
 
 returns : tie.Need-returns
-unfolding recordOf
+unfolding recordWith
 returns c = rw (c .before .enum-told .given .1) (c .code-only .ensures)
 
 returns-2 : tie.Need-returns-2
-unfolding recordOf
-returns-2 c = rw (c .before .v .given .1)
+unfolding recordWith
+returns-2 c = rw (c .before .verdict .given .1)
 
 returns-3 : tie.Need-returns-3
-unfolding recordOf
+unfolding recordWith
 returns-3 c = rw (c .before .enum-told2 .given .1) (c .code-only2 .ensures)
 
 returns-4 : tie.Need-returns-4
-unfolding recordOf
+unfolding recordWith
 returns-4 c = rw (c .before .enum-told3 .given .1) (c .code-only3 .ensures)
 
 returns-5 : tie.Need-returns-5
-unfolding recordOf
+unfolding recordWith
 returns-5 c = rw (c .before .enum-told4 .given .1) (c .code-only4 .ensures)
 
 pub record-of-spec : {M : Type 1} → statement M
@@ -57,7 +57,7 @@ record-of-spec =
     (tie.spec
     enum-told
     code-only-requires
-    enum-known-v
+    enum-known-verdict
     enum-told-2
     code-only-requires-2
     enum-told-3

@@ -8,7 +8,7 @@ use Rattle.curve.specs.Held.{heldAs}
 use Rattle.curve.specs.Claimed.{claimOver, two-lent}
 use Rattle.horizon.specs.Capped.{horizonFrom, horizon-above, horizon-at}
 use Rattle.horizon.specs.Reach.{horizon-numbers}
-use Rattle.verdict.specs.Given.{verdict-far}
+use Rattle.verdict.specs.Given.{record-far}
 use Rattle.verdict.proofs.verdict_over.Statement.{statement}
 use Rattle.verdict.proofs.verdict_over.Tie as tie
 
@@ -28,8 +28,11 @@ horizon-is c =
     let a = c .before .before .before .before .before .args in
     c .horizon-over .ensures ∙ ap horizonFrom (horizon-numbers (a .claim) _ _ (a .h) (now (a .claimed)))
 
+untried-requires : tie.Need-untried-requires
+untried-requires c κs = search needs
+
 returns : tie.Need-returns
-returns c = verdict-far _ (horizon-above _ .0 (sym (horizon-is (c .before .before)) ∙ c .enum-told .given .1))
+returns c = c .untried .ensures ∙ record-far _ (horizon-above _ .0 (sym (horizon-is (c .before .before .before)) ∙ c .before .enum-told .given .1))
 
 cast-near : tie.Need-cast-near
 cast-near c = search needs
@@ -53,6 +56,7 @@ verdict-over-spec =
     horizon-over-requires
     enum-known-horizon
     enum-told
+    untried-requires
     returns
     cast-near
     in-order-requires

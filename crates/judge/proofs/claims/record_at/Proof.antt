@@ -4,12 +4,13 @@ use lib.Dec.{eqb}
 use denote.Ref.{now}
 use borrow.Author.Tests.{eqb-true}
 use borrow.Author.Needs.{needs}
-use Rattle.minplus.specs.Verdict.{recordOf}
 use Rattle.content.specs.declared.Stated.{Stated}
+use Rattle.content.specs.declared.ClaimField.{ClaimField}
 use Rattle.content.specs.declared.ClaimField.the-variants as claim-field
 use Rattle.content.specs.Refusals.{claimField}
 use Rattle.field.specs.Fields.{contentAt}
-use Rattle.judge.specs.Kept.{ClaimReady, stepsIn, verdictKept}
+use Rattle.judge.specs.Claims.{recordFor}
+use Rattle.judge.specs.Kept.{ClaimReady, claimKept, kept-refused, kept-stated, stepsIn}
 use Rattle.judge.proofs.claims.record_at.Statement.{statement}
 use Rattle.judge.proofs.claims.record_at.Tie as tie
 
@@ -22,15 +23,17 @@ enum-known-stated c = search needs
 enum-told : tie.Need-enum-told
 enum-told c = search needs
 
+untried-requires : tie.Need-untried-requires
+untried-requires c κs = search needs
+
 record-of-requires : tie.Need-record-of-requires
 record-of-requires c κs = search needs
 
 returns : tie.Need-returns
-unfolding verdictKept
 returns c =
-    let a = c .before .before .before .before .before .before .before .before .args in
-    let refused = sym (c .before .before .before .claim-at .ensures) ∙ c .before .enum-told .given .1 in
-    c .record-of .ensures ∙ ap recordOf (sym (ap (verdictKept (now (a .forms)) (now (a .rises))) refused))
+    let a = c .before .before .before .before .before .before .before .before .before .args in
+    let refused = sym (c .before .before .before .before .claim-at .ensures) ∙ c .before .before .enum-told .given .1 in
+    c .record-of .ensures ∙ c .before .untried .ensures ∙ kept-refused (now (a .forms)) (now (a .rises)) _ ∙ ap (λ (x : ClaimField). recordFor (claimKept (now (a .forms)) (now (a .rises)) x)) (sym refused)
 
 -- where the field is read
 abbrev stated : tie.After-known-told → Stated
@@ -79,12 +82,11 @@ same-length : tie.Need-same-length
 same-length c = search needs
 
 returns-2 : tie.Need-returns-2
-unfolding verdictKept
 returns-2 c =
     let t = c .before .before .before .before .before .before .before .before .before .before .before in
     let a = t .before .before .before .before .before .before .before .before .args in
     let given = rw (c .before .before .before .before .before .before .before .before .before .before .form-at .ensures, c .before .before .before .before .before .before .before .before .before .form-at2 .ensures, c .before .before .before .before .before .before .before .before .form-at3 .ensures, c .before .before .before .before .before .before .before .rises-at .ensures, c .before .before .before .before .before .before .rises-at2 .ensures, c .before .before .before .before .before .rises-at3 .ensures) at (c .before .before .before .verdict-over .ensures) in
-    c .record-of2 .ensures ∙ ap recordOf (given ∙ sym (ap (verdictKept (now (a .forms)) (now (a .rises))) (so t)))
+    c .record-of2 .ensures ∙ given ∙ kept-stated (now (a .forms)) (now (a .rises)) (stated t) ∙ ap (λ (x : ClaimField). recordFor (claimKept (now (a .forms)) (now (a .rises)) x)) (sym (so t))
 
 pub record-at-spec : {M : Type 1} → statement M
 record-at-spec =
@@ -93,6 +95,7 @@ record-at-spec =
     claim-at-requires
     enum-known-stated
     enum-told
+    untried-requires
     record-of-requires
     returns
     form-at-requires

@@ -51,7 +51,7 @@ record-at-requires c κs =
     (claim-ready ran (c .before .before .before .before .loop-test .taken), ran .kept .forms-room, ran .kept .rises-room, omega (arith, c .before .before .before .before .before .loop .inv .1))
 
 mul-put-record : tie.Need-mul-put-record Inv-loop μ-loop
-mul-put-record c = omega (arith, claims-few (c .before .before .before .before .before .before .before .before .before .before .before .loop .inv .0))
+mul-put-record c = omega (arith, claims-few (c .before .before .before .before .before .before .before .before .before .before .before .before .loop .inv .0))
 
 cast-put-record : tie.Need-cast-put-record Inv-loop μ-loop
 cast-put-record c = search needs
@@ -59,23 +59,26 @@ cast-put-record c = search needs
 cast-put-record-2 : tie.Need-cast-put-record-2 Inv-loop μ-loop
 cast-put-record-2 c = search needs
 
+cast-put-record-3 : tie.Need-cast-put-record-3 Inv-loop μ-loop
+cast-put-record-3 c = search needs
+
 put-record-requires : tie.Need-put-record-requires Inv-loop μ-loop
-put-record-requires c κs = record-room (c .before .before .before .before .before .before .before .before .before .before .before .before .before .loop .inv .0) (c .before .before .before .before .before .before .before .before .before .before .before .before .loop-test .taken)
+put-record-requires c κs = record-room (c .before .before .before .before .before .before .before .before .before .before .before .before .before .before .before .loop .inv .0) (c .before .before .before .before .before .before .before .before .before .before .before .before .before .before .loop-test .taken)
 
 counted-requires : tie.Need-counted-requires Inv-loop μ-loop
-counted-requires c κs = countable (c .before .before .before .before .before .before .before .before .before .before .before .before .before .before .before .before .loop .inv .0)
+counted-requires c κs = countable (c .before .before .before .before .before .before .before .before .before .before .before .before .before .before .before .before .before .before .loop .inv .0)
 
 add-k : tie.Need-add-k Inv-loop μ-loop
-add-k c = omega (arith, claims-few (c .before .before .before .before .before .before .before .before .before .before .before .before .before .before .before .before .before .loop .inv .0))
+add-k c = omega (arith, claims-few (c .before .before .before .before .before .before .before .before .before .before .before .before .before .before .before .before .before .before .before .loop .inv .0))
 
 loop-less : tie.Need-loop-less Inv-loop μ-loop
 loop-less c = omega arith
 
 loop-again : tie.Need-loop-again Inv-loop μ-loop
 loop-again c = (
-  ran-more (c .before .before .before .before .before .before .before .before .before .before .before .before .before .before .before .before .before .loop .inv .0) (c .before .before .before .before .before .before .before .before .before .before .before .before .before .before .before .before .loop-test .taken) _
-      (c .before .before .before .before .before .before .before .before .before .before .before .record-at .ensures) (c .before .before .before .put-record .ensures) (c .counted .ensures),
-  omega (arith, c .before .before .before .before .before .before .before .before .before .before .before .before .before .before .before .before .before .loop .inv .1),
+  ran-more (c .before .before .before .before .before .before .before .before .before .before .before .before .before .before .before .before .before .before .before .loop .inv .0) (c .before .before .before .before .before .before .before .before .before .before .before .before .before .before .before .before .before .before .loop-test .taken) _
+      (c .before .before .before .before .before .before .before .before .before .before .before .before .before .record-at .ensures) (c .before .before .before .put-record .ensures) (c .counted .ensures),
+  omega (arith, c .before .before .before .before .before .before .before .before .before .before .before .before .before .before .before .before .before .before .before .loop .inv .1),
 )
 
 same-length : tie.Need-same-length Inv-loop μ-loop
@@ -104,6 +107,7 @@ run-spec =
     mul-put-record
     cast-put-record
     cast-put-record-2
+    cast-put-record-3
     put-record-requires
     counted-requires
     add-k

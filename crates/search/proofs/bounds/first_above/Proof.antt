@@ -1,8 +1,9 @@
 -- `search::bounds::first_above` meets its contract. A turn has found nothing yet, since no tick before s passes the
 -- test, and the two walks stand at s and so many ticks later.
-use Prim.Native.Nat.{ℕ, suc, _+_, _-_, _≤_, _<_}
+use Prim.Native.Nat.{ℕ, _+_, _-_, _≤_, _<_}
 use mathlib.Core.Path.{_≡_, refl, sym, ap, ap₂, _∙_}
 use mathlib.Core.Bool.{false}
+use mathlib.Core.Logic.{⊎-elim}
 use native.Mathlib.Omega.{arith}
 use native.Mathlib.Numerals.{add-one}
 use lib.Dec.{ltb}
@@ -15,8 +16,8 @@ use Rattle.curve.specs.Steps.{Steps, curveFrom}
 use Rattle.curve.specs.Held.{heldAs}
 use Rattle.curve.specs.Walks.{walkAt, walkOn, nextWalk, walk-able, walk-next, walk-on, walk-starts}
 use Rattle.search.specs.declared.Found.the-variants.{Nowhere}
-use Rattle.search.specs.Break.{Comparable}
-use Rattle.search.specs.Found.{found-at, found-nowhere}
+use Rattle.search.specs.Break.{Comparable, firstAbove}
+use Rattle.search.specs.Found.{found-at, found-nowhere, ticks-few}
 use Rattle.search.proofs.bounds.first_above.Statement.{statement}
 use Rattle.search.proofs.bounds.first_above.Tie as tie
 
@@ -83,6 +84,9 @@ add-allowed c =
 cast-tick : tie.Need-cast-tick Inv-ticks μ-ticks
 cast-tick c = omega arith
 
+add-s : tie.Need-add-s Inv-ticks μ-ticks
+add-s c = omega arith
+
 next-requires : tie.Need-next-requires Inv-ticks μ-ticks
 next-requires c κs =
     let t = c .before .before .before .before .before .before .before .ticks in
@@ -96,8 +100,8 @@ next-requires-2 c κs =
     let pre = comparable at in
     rw (t .inv .1 .1, serves at (t .s) (t .inv .0 .0)) (walk-able (pre .right) (t .s + later at) (omega (arith, pre .within, pre .later-fits)))
 
-add-s : tie.Need-add-s Inv-ticks μ-ticks
-add-s c = omega arith
+add-s-2 : tie.Need-add-s-2 Inv-ticks μ-ticks
+add-s-2 c = omega arith
 
 ticks-less : tie.Need-ticks-less Inv-ticks μ-ticks
 ticks-less c = omega arith
@@ -118,25 +122,35 @@ ticks-again c =
       below-more _ _ (t .inv .2) (ap₂ (λ (v w : Walk). ltb (w .value .0 + more) (v .value .0)) (sym (t .inv .1 .0)) (sym right) ∙ le-ltb _ _ (c .before .before .if1 .left)),
     )
 
-returns : tie.Need-returns Inv-ticks μ-ticks
-returns c =
+-- no tick before s is above
+kept : (c : tie.At-ticks Inv-ticks μ-ticks) → let at = c .before in (k : ℕ) → k < c .ticks .s
+    → ltb (value (curveFrom (G at)) (k + later at) + at .before .before .before .before .args .more .0) (value (curveFrom (F at)) k) ≡ false
+kept c k lt =
+    let at = c .before in
+    ap (λ (w : ℕ). ltb (w + at .before .before .before .before .args .more .0) (value (curveFrom (F at)) k)) (sym (served-value at k (omega (arith, lt, c .ticks .inv .0 .0))))
+    ∙ c .ticks .inv .2 k lt
+
+-- what the loop is left with, on either way: the ticks that were compared
+ended : (c : tie.Left-ticks Inv-ticks μ-ticks) → let a = c .before .before .before .before .before .before .args in
+    record { found = c .ticks-test .found; ticks = record { 0 = c .ticks-test .s } }
+    ≡ firstAbove (curveFrom (heldAs (a .f) (now (a .left)))) (curveFrom (heldAs (a .g) (now (a .right)))) (a .later .0) (a .more .0) (a .tried)
+ended c =
     let t = c .before .ticks in
     let at = c .before .before in
     let more : ℕ = at .before .before .before .before .args .more .0 in
-    t .inv .0 .1
-    ∙ found-nowhere _ _ _ _ (λ k lt.
-    ap (λ (w : ℕ). ltb (w + more) (value (curveFrom (F at)) k)) (sym (served-value at k (omega arith))) ∙ t .inv .2 k (omega arith))
+    ⊎-elim (λ w. found-nowhere _ _ _ _ (w .1 ∙ t .inv .0 .1) (omega (arith, w .0 .left, w .2, t .inv .0 .0)) (λ k lt. kept (c .before) k (omega (arith, lt, w .0 .left))))
+    (λ w.
+    let left = ap (λ (v : Walk). v .value .0) (t .inv .1 .0) in
+    let right = ap (λ (v : Walk). v .value .0 + more) (t .inv .1 .1) ∙ ap (λ (x : ℕ). x + more) (served-value at (t .s) (t .inv .0 .0)) in
+    found-at _ _ _ _ (t .s) (w .7) (w .8) left right (kept (c .before)) (ap₂ ltb (sym right) (sym left) ∙ lt-ltb _ _ (w .6 .taken)) (w .0 .taken)) (c .ticks-test .came)
 
-returns-2 : tie.Need-returns-2 Inv-ticks μ-ticks
-returns-2 c =
-    let t = c .before .before .before .before .before .before .before .ticks in
-    let at = c .before .before .before .before .before .before .before .before in
-    let more : ℕ = at .before .before .before .before .args .more .0 in
-    let left = ap (λ (w : Walk). w .value .0) (t .inv .1 .0) in
-    let right = ap (λ (w : Walk). w .value .0 + more) (t .inv .1 .1) ∙ ap (λ (x : ℕ). x + more) (served-value at (t .s) (t .inv .0 .0)) in
-    found-at _ _ _ _ (t .s) left right
-    (λ k lt. ap (λ (w : ℕ). ltb (w + more) (value (curveFrom (F at)) k)) (sym (served-value at k (omega arith))) ∙ t .inv .2 k lt)
-    (ap₂ ltb (sym right) (sym left) ∙ lt-ltb _ _ (c .if1 .taken)) (omega arith)
+cast-t19 : tie.Need-cast-t19 Inv-ticks μ-ticks
+cast-t19 c =
+    let e = ended (c .before) in
+    omega (arith, ticks-few _ _ _ _ e, comparable (c .before .before .before) .within)
+
+returns : tie.Need-returns Inv-ticks μ-ticks
+returns c = ended (c .before)
 
 pub first-above-spec : {M : Type 1} → statement M
 first-above-spec =
@@ -149,10 +163,11 @@ first-above-spec =
     ticks-holds
     add-allowed
     cast-tick
+    add-s
     next-requires
     next-requires-2
-    add-s
+    add-s-2
     ticks-less
     ticks-again
-    returns
-    returns-2)
+    cast-t19
+    returns)

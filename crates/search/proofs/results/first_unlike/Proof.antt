@@ -1,6 +1,7 @@
-use Prim.Native.Nat.{ℕ, suc, _+_, _-_, _≤_, _<_}
+use Prim.Native.Nat.{ℕ, suc, _-_, _≤_, _<_}
 use mathlib.Core.Path.{_≡_, refl, sym, ap, ap₂, _∙_}
 use mathlib.Core.Bool.{false}
+use mathlib.Core.Logic.{⊎-elim}
 use native.Mathlib.Omega.{arith}
 use denote.Ref.{now}
 use borrow.Author.Count.{below-more, below-none}
@@ -13,8 +14,8 @@ use Rattle.curve.specs.Steps.{Steps, curveFrom}
 use Rattle.curve.specs.Held.{heldAs}
 use Rattle.curve.specs.Walks.{walkAt, walk-able, walk-next, walk-starts}
 use Rattle.search.specs.declared.Found.the-variants.{Nowhere}
-use Rattle.search.specs.Found.{found-at, found-nowhere}
-use Rattle.search.specs.Break.{Searched}
+use Rattle.search.specs.Found.{found-at, found-nowhere, ticks-few}
+use Rattle.search.specs.Break.{Searched, firstOf}
 use Rattle.search.specs.Beside.{besideAt, besideOf, beside-due}
 use Rattle.search.proofs.results.first_unlike.Statement.{statement}
 use Rattle.search.proofs.results.first_unlike.Tie as tie
@@ -94,6 +95,9 @@ beside-requires c κs =
 cast-t19 : tie.Need-cast-t19 Inv-ticks μ-ticks
 cast-t19 c = omega arith
 
+add-n : tie.Need-add-n Inv-ticks μ-ticks
+add-n c = omega arith
+
 next-requires : tie.Need-next-requires Inv-ticks μ-ticks
 next-requires c κs = let t = c .before .before .before .before .before .before in rw (walks t .0) (walk-able (apart t .left) (t .before .ticks .n) (omega (arith, apart t .within)))
 
@@ -103,8 +107,8 @@ next-requires-2 c κs = let t = c .before .before .before .before .before .befor
 next-requires-3 : tie.Need-next-requires-3 Inv-ticks μ-ticks
 next-requires-3 c κs = let t = c .before .before .before .before .before .before .before .before in rw (walks t .1 .1) (walk-able (apart t .claimed) (t .before .ticks .n) (omega (arith, apart t .within)))
 
-add-n : tie.Need-add-n Inv-ticks μ-ticks
-add-n c = omega (arith, apart (c .before .before .before .before .before .before .before .before .before) .within)
+add-n-2 : tie.Need-add-n-2 Inv-ticks μ-ticks
+add-n-2 c = omega (arith, apart (c .before .before .before .before .before .before .before .before .before) .within)
 
 ticks-less : tie.Need-ticks-less Inv-ticks μ-ticks
 ticks-less c = omega arith
@@ -125,19 +129,28 @@ ticks-again c =
       below-more _ _ (l .inv .2) (rw (eq-eqb _ _ equal)),
     )
 
-returns : tie.Need-returns Inv-ticks μ-ticks
-returns c =
-    let t = c .before .ticks in
-    t .inv .0 .1 ∙ found-nowhere _ _ _ _ (λ k lt. t .inv .2 k (omega arith))
-
-returns-2 : tie.Need-returns-2 Inv-ticks μ-ticks
+-- what the loop is left with, on either way: the ticks that were compared
+ended : (c : tie.Left-ticks Inv-ticks μ-ticks) → let a = c .before .before .before .before .before .before .before .before .args in
+    record { found = c .ticks-test .found; ticks = record { 0 = c .ticks-test .n } }
+    ≡ firstOf (equals (besideOf (a .minimum)) (curveFrom (heldAs (a .f) (now (a .left)))) (curveFrom (heldAs (a .g) (now (a .right)))) (curveFrom (heldAs (a .h) (now (a .claimed))))) (a .tried)
 unfolding breaks leftAt rightAt
-returns-2 c =
-    let t = c .before .before .before .before .before .before in
-    let e = due-is (c .before .before) in
-    let value-is = ap (λ (w : Walk). w .value .0) (walks t .1 .1) in
-    found-at _ _ _ _ (t .before .ticks .n) e value-is (t .before .ticks .inv .2)
-    (rw (ne-eqb _ _ (λ same. c .if1 .taken (e ∙ same ∙ sym value-is)))) (t .ticks-test .taken)
+ended c =
+    let l = c .before .ticks in
+    ⊎-elim (λ w. found-nowhere _ _ _ _ (w .1 ∙ l .inv .0 .1) (omega (arith, w .0 .left, w .2, l .inv .0 .0)) (λ k lt. l .inv .2 k (omega (arith, lt, w .0 .left))))
+    (λ w.
+    let t : Tick = record { before = c .before; ticks-test = w .0 } in
+    let e = due-is (record { before = record { before = record { before = record { before = t; first = w .1 }; second = w .2 }; value = w .3 }; beside = w .4 }) in
+    let value-is = ap (λ (v : Walk). v .value .0) (walks t .1 .1) in
+    found-at _ _ _ _ (l .n) (w .7) (w .8) e value-is (l .inv .2)
+    (rw (ne-eqb _ _ (λ same. w .6 .taken (e ∙ same ∙ sym value-is)))) (w .0 .taken)) (c .ticks-test .came)
+
+cast-t22 : tie.Need-cast-t22 Inv-ticks μ-ticks
+cast-t22 c =
+    let e = ended (c .before) in
+    omega (arith, ticks-few _ _ _ _ e, c .before .before .before .before .before .before .before .before .before .pre .within)
+
+returns : tie.Need-returns Inv-ticks μ-ticks
+returns c = ended (c .before)
 
 pub first-unlike-spec : {M : Type 1} → statement M
 first-unlike-spec =
@@ -151,11 +164,12 @@ first-unlike-spec =
     ticks-holds
     beside-requires
     cast-t19
+    add-n
     next-requires
     next-requires-2
     next-requires-3
-    add-n
+    add-n-2
     ticks-less
     ticks-again
-    returns
-    returns-2)
+    cast-t22
+    returns)
