@@ -1,17 +1,18 @@
 -- What the code answers, in the words of the crate minplus.
 --
 --     verdictOf, numbersOf     the verdict, and the numbers of a record
---     decidedOf                the record of a verdict and the ticks tried for it
+--     decidedOf                the record of a verdict and the ticks tried for it; no two of the code's have the same
+--                              one (decided-one)
 --     judgedOf                 the answer on a claim: such a record, or none
 --     judgement                what it has to be: none for a claim that is not well formed (judgement-none), else its
 --                              record (judgement-some)
 --     record-far               which is "not judged" beyond the limit, with no tick tried,
 --     ordered, record-near     and within it goes by what the tests find, in the order of the codes, with as many ticks
 --                              as the search has compared
---     laterCode                the codes after the first break (later, later-is); IsLater, LaterAsked: of two curves,
---                              and what they ask (later-asked)
+--     laterCode                the codes after the first break (later-is); IsLater, LaterAsked: of two curves, and
+--                              what they ask (later-asked)
 use Prim.Native.Nat.{ℕ, _≤_, _<_}
-use mathlib.Core.Path.{_≡_, refl, ap₂}
+use mathlib.Core.Path.{_≡_, refl, sym, ap, ap₂, _∙_}
 use mathlib.Core.Bool.{Bool, true, false}
 use mathlib.Core.Option.{Option, none, some}
 use borrow.Author.Tests.{lt-ltb, le-ltb}
@@ -20,6 +21,8 @@ use Rattle.minplus.specs.Claim.{Claim, wellFormedClaim}
 use Rattle.minplus.specs.Horizon.{horizon, maxHorizon}
 use Rattle.minplus.specs.Verdict as C
 use Rattle.minplus.specs.Verdict.{accepted, byRate, codesInOrder, firstBreak, leftAt, lessHolds, notJudged, notLeast, recordOf, recordOn, recordWith, refutedAt, refutedByRate, rightAt, tried, verdict}
+use Rattle.minplus.specs.Recorded.{verdictBy}
+use Rattle.curve.specs.declared.Ticks.{Ticks}
 use Rattle.curve.specs.declared.Claim as code
 use Rattle.curve.specs.declared.Claim.the-variants.{Equals, AtMost, Exactly}
 use Rattle.curve.specs.Steps.{Steps}
@@ -57,14 +60,9 @@ unfoldable pub judgement : Claim → Option C.Record
 unfolding wellFormedClaim recordOn
 judgement c = elim (wellFormedClaim c) [ true ↦ some (recordOn c) | false ↦ none ]
 
--- codes 3, 4 and 1, where no tried tick breaks the rule
-abbrev pub later : (rate less : Bool) → C.Verdict
-later true less = refutedByRate
-later false true = notLeast
-later false false = accepted
-
+-- where no tried tick breaks the rule
 abbrev pub laterCode : Claim → C.Verdict
-laterCode c = later (byRate c) (lessHolds c)
+laterCode c = codesInOrder c false none (byRate c) (lessHolds c)
 
 -- the claimed curve of kinds 1 to 3 has no part in them
 abbrev pub IsLater : C.Verdict → code.Claim → Curve → Curve → Type 0
@@ -76,14 +74,32 @@ LaterAsked (Equals o) f g at = Unit {0}
 LaterAsked (AtMost x) f g at = Unit {0}
 LaterAsked (Exactly x) f g at = LessAsked x f g at
 
-abbrev by : Found → (rate less : Bool) → C.Verdict
-by (At tick left right) rate less = refutedAt (tick .0) (left .0) (right .0)
-by Nowhere rate less = later rate less
-
 abbrev pub ordered : Found → Claim → C.Verdict
-ordered found c = by found (byRate c) (lessHolds c)
+ordered (At tick left right) c = refutedAt (tick .0) (left .0) (right .0)
+ordered Nowhere c = laterCode c
 
 -- ---- laws
+
+undecided : C.Record → Decided
+undecided r = record { verdict = go (verdictBy (r .code) r); tried = record { 0 = r .tried } }
+  where
+    go : C.Verdict → Verdict
+    go accepted = Accepted
+    go (refutedAt tick left right) = RefutedAt (record { 0 = tick }) (record { 0 = left }) (record { 0 = right })
+    go refutedByRate = RefutedByRate
+    go notLeast = NotLeast
+    go notJudged = NotJudged
+
+pub decided-one : (d e : Decided) → decidedOf d ≡ decidedOf e → d ≡ e
+unfolding undecided verdictBy recordWith
+decided-one d e same = sym (back (d .verdict) (d .tried)) ∙ ap undecided same ∙ back (e .verdict) (e .tried)
+  where
+    back : (v : Verdict) (n : Ticks) → undecided (decidedOf (record { verdict = v; tried = n })) ≡ record { verdict = v; tried = n }
+    back Accepted n = refl
+    back (RefutedAt tick left right) n = refl
+    back RefutedByRate n = refl
+    back NotLeast n = refl
+    back NotJudged n = refl
 
 pub judgement-none : (c : Claim) → wellFormedClaim c ≡ false → none ≡ judgement c
 unfolding judgement
@@ -100,18 +116,22 @@ record-far c far = rw (lt-ltb maxHorizon (horizon c) far)
 pub record-near : (c : Claim) → horizon c ≤ maxHorizon → {compared : Compared} → compared ≡ breakOf c
     → recordWith (ordered (compared .found) c) (compared .ticks .0) ≡ recordOn c
 unfolding recordOn comparedOf
-record-near c near e = rw (e, le-ltb maxHorizon (horizon c) near) (go (firstBreak c) (byRate c) (lessHolds c))
+record-near c near e = rw (e, le-ltb maxHorizon (horizon c) near) (go (firstBreak c))
   where
-    go : (o : Option ℕ) (rate less : Bool)
-        → (let x = comparedFrom (leftAt c) (rightAt c) (tried c) o in recordWith (by (x .found) rate less) (x .ticks .0) ≡ recordOf c (codesInOrder c false o rate less))
-    go (some n) rate less = refl
-    go none true less = refl
-    go none false true = refl
-    go none false false = refl
+    -- of none of these codes the count depends on which it is
+    by-tests : (rate less : Bool) → let v = codesInOrder c false none rate less in recordWith v (tried c) ≡ recordOf c v
+    by-tests true less = refl
+    by-tests false true = refl
+    by-tests false false = refl
+
+    go : (o : Option ℕ)
+        → (let x = comparedFrom (leftAt c) (rightAt c) (tried c) o in recordWith (ordered (x .found) c) (x .ticks .0) ≡ recordOf c (codesInOrder c false o (byRate c) (lessHolds c)))
+    go (some n) = refl
+    go none = by-tests (byRate c) (lessHolds c)
 
 -- from what the tests on the way found; a test that is not reached is handed on as it stands
-pub later-is : (c : Claim) (rate less : Bool) → rate ≡ byRate c → less ≡ lessHolds c → later rate less ≡ laterCode c
-later-is c rate less e e′ = ap₂ later e e′
+pub later-is : (c : Claim) (rate less : Bool) → rate ≡ byRate c → less ≡ lessHolds c → codesInOrder c false none rate less ≡ laterCode c
+later-is c rate less e e′ = ap₂ (codesInOrder c false none) e e′
 
 pub later-asked : (c : code.Claim) {f g h : Steps} {at : ℕ} → Judgeable c f g h at → LaterAsked c f g at
 later-asked (Equals o) j = tt

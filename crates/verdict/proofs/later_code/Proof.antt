@@ -5,7 +5,7 @@ use denote.Ref.{now}
 use borrow.Author.Needs.{needs}
 use Rattle.minplus.specs.Curve.{Curve}
 use Rattle.minplus.specs.Claim.{Claim}
-use Rattle.minplus.specs.Verdict.{byRate, lessHolds}
+use Rattle.minplus.specs.Verdict.{byRate, codesInOrder, lessHolds}
 use Rattle.curve.specs.Steps.{curveFrom}
 use Rattle.curve.specs.Held.{heldAs}
 use Rattle.curve.specs.Claimed.{claimOver}
@@ -35,29 +35,29 @@ abbrev claim : tie.Start → Curve → Claim
 claim c h = let a = c .args in claimOver (a .claim) (curveFrom (heldAs (a .f) (now (a .left)))) (curveFrom (heldAs (a .g) (now (a .right)))) h
 
 returns : tie.Need-returns
-unfolding byRate lessHolds
+unfolding codesInOrder byRate lessHolds
 returns c h = later-is (claim (c .before .before .before .before) h) false false (rw (c .enum-told .given .1)) (rw (c .enum-told .given .1))
 
 returns-2 : tie.Need-returns-2
-unfolding byRate
+unfolding codesInOrder byRate
 returns-2 c h =
     let kind = c .before .before .enum-told2 .given .1 in
     later-is (claim (c .before .before .before .before .before .before) h) true _ (rw kind (sym (c .if1 .taken) ∙ c .before .slower .ensures)) refl
 
 returns-3 : tie.Need-returns-3
-unfolding byRate lessHolds
+unfolding codesInOrder byRate lessHolds
 returns-3 c h =
     let kind = c .before .before .enum-told2 .given .1 in
     later-is (claim (c .before .before .before .before .before .before) h) false false (rw kind (sym (c .if1 .left) ∙ c .before .slower .ensures)) (rw kind)
 
 returns-4 : tie.Need-returns-4
-unfolding byRate
+unfolding codesInOrder byRate
 returns-4 c h =
     let kind = c .before .before .before .claim .given .1 in
     later-is (claim (c .before .before .before .before .before .before .before) h) true _ (rw kind (sym (c .if2 .taken) ∙ c .before .slower2 .ensures)) refl
 
 returns-5 : tie.Need-returns-5
-unfolding byRate
+unfolding codesInOrder byRate
 returns-5 c h =
     let kind = c .before .before .before .before .before .claim .given .1 in
     let rate = sym (c .before .before .if2 .left) ∙ c .before .before .before .slower2 .ensures in
@@ -65,7 +65,7 @@ returns-5 c h =
     later-is (claim (c .before .before .before .before .before .before .before .before .before) h) false true (rw kind rate) (rw kind less)
 
 returns-6 : tie.Need-returns-6
-unfolding byRate
+unfolding codesInOrder byRate
 returns-6 c h =
     let kind = c .before .before .before .before .before .claim .given .1 in
     let rate = sym (c .before .before .if2 .left) ∙ c .before .before .before .slower2 .ensures in
