@@ -1,4 +1,5 @@
 // A book, read: any bytes are a sound book or a refusal with its place.
+#![tactic(auto)]
 use content::Refusal;
 use curve::Units;
 use field::State;
@@ -7,14 +8,14 @@ pub mod values;
 pub mod whole;
 
 // At which byte the field of each curve and of each claim begins, as far as a book has been read.
-#[derive(Drop)]
+#[derive(Clone, Copy)]
 pub struct Places {
     pub curves: [u16; State::MAX_CURVES],
     pub claims: [u16; State::MAX_CLAIMS],
 }
 
 // A sound book: how many curves and claims it has, and where they are.
-#[derive(Drop)]
+#[derive(Clone, Copy)]
 pub struct Book {
     pub version: u8,
     pub curves: usize,
@@ -26,21 +27,21 @@ impl Book {
     pub const MAX_BYTES: usize = 32_768;
 }
 
-#[derive(Drop)]
+#[derive(Clone, Copy)]
 pub enum Outcome {
     Sound,
     Refused(Refusal, usize),
 }
 
 // What reading gives. A refused book holds nothing: no curve, no claim, no place.
-#[derive(Drop)]
+#[derive(Clone, Copy)]
 pub struct Reading {
     pub outcome: Outcome,
     pub book: Book,
 }
 
 // The answer to a question for a curve's value.
-#[derive(Drop)]
+#[derive(Clone, Copy)]
 pub enum Asked {
     Value(Units),
     Refused(Refusal, usize),
@@ -53,7 +54,7 @@ impl Asked {
 // The same for C: the refusal's number + 2^8 * its place, 0 where there is a value; and the value, 0 where there is
 // none.
 #[repr(C)]
-#[derive(Drop)]
+#[derive(Clone, Copy)]
 pub struct CurveValue {
     pub refusal: u64,
     pub value: u64,

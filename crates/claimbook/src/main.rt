@@ -1,4 +1,5 @@
 // A book on standard input, document 01's lines on standard output.
+#![tactic(auto)]
 ghost use Rattle.std.specs.Prelude.{◌≡◌, length};
 ghost use Rattle.io.specs.Counts.{IsPrefixLen};
 ghost use Rattle.numbers.specs.Put.{put};

@@ -1,5 +1,6 @@
 // What stands in a field of a book: a curve or a claim, or why it is refused. The reader and the writer go by the same
 // rules.
+#![tactic(auto)]
 ghost use Rattle.std.specs.Prelude.{◌≡◌};
 ghost use Rattle.content.specs.Refusals.{number_of};
 
@@ -9,7 +10,7 @@ pub mod claims;
 pub mod curves;
 
 // Why a book, or a question to it, is refused.
-#[derive(Drop)]
+#[derive(Clone, Copy)]
 pub enum Refusal {
     // fewer than 3 bytes are left, or the content runs past the book
     Torn,
@@ -62,14 +63,14 @@ impl Refusal {
 }
 
 // What a check of a content finds.
-#[derive(Drop)]
+#[derive(Clone, Copy)]
 pub enum Checked {
     Sound,
     Refused(Refusal),
 }
 
 // A claim's field: what is said, of which curves. Kinds 4 to 7 have no claimed curve, and 0 stands there.
-#[derive(Drop)]
+#[derive(Clone, Copy)]
 pub struct Stated {
     pub claim: Claim,
     pub left: usize,
@@ -78,7 +79,7 @@ pub struct Stated {
 }
 
 // What a claim's content is.
-#[derive(Drop)]
+#[derive(Clone, Copy)]
 pub enum ClaimField {
     Stated(Stated),
     Refused(Refusal),

@@ -1,5 +1,7 @@
 // Curves and claims as values, and what everything above asks of them: a value at a tick, a walk, a table of values,
 // which of two is slower. How a curve is held is known here alone.
+#![tactic(auto)]
+
 ghost use Rattle.std.specs.Prelude.{◌≡◌};
 ghost use Rattle.curve.specs.Held.{held_over};
 ghost use Rattle.curve.specs.Kinds.{named_by, limited_by, within};
@@ -12,15 +14,15 @@ pub mod walks;
 use crate::listed::hold;
 
 // A count of ticks. A count of units can't be passed for it.
-#[derive(Drop)]
+#[derive(Clone, Copy)]
 pub struct Ticks(pub u32);
 
 // A count of data units. A value at any tick that `Ticks` holds fits.
-#[derive(Drop)]
+#[derive(Clone, Copy)]
 pub struct Units(pub u64);
 
 // What is held of a curve beside its rises: T, d, c and the first value.
-#[derive(Drop)]
+#[derive(Clone, Copy)]
 pub struct Form {
     pub rank: Ticks,
     pub period: Ticks,
@@ -30,7 +32,7 @@ pub struct Form {
 
 // The working copy of a curve: its rises from tick to tick, with room for 256 whatever its rank. The last of the T+d
 // rises is that over the seam, and from the T-th on they repeat. What is held past them counts for nothing.
-#[derive(Drop)]
+#[derive(Clone, Copy)]
 pub struct Curve {
     pub form: Form,
     pub rises: [u32; Curve::MAX_LISTED],
@@ -57,7 +59,7 @@ impl Curve {
 }
 
 // Kinds 1 to 3: what the claimed curve is said to be.
-#[derive(Drop)]
+#[derive(Clone, Copy)]
 pub enum Operation {
     Sum,
     Minimum,
@@ -65,14 +67,14 @@ pub enum Operation {
 }
 
 // Kinds 4 to 7: X, a delay in ticks or a backlog in units.
-#[derive(Drop)]
+#[derive(Clone, Copy)]
 pub enum Deviation {
     Delay(Ticks),
     Backlog(Units),
 }
 
 // What is said of the left, the right and, for kinds 1 to 3, the claimed curve.
-#[derive(Drop)]
+#[derive(Clone, Copy)]
 pub enum Claim {
     Equals(Operation),
     AtMost(Deviation),
@@ -80,7 +82,7 @@ pub enum Claim {
 }
 
 // What a kind's number and an X make.
-#[derive(Drop)]
+#[derive(Clone, Copy)]
 pub enum Named {
     Claim(Claim),
     UnknownKind,

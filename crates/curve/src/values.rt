@@ -46,7 +46,7 @@ pub fn closes(form: Form, rises: &[u32]) -> bool
 }
 
 // Where a tick comes to: its place in the list, after so many whole periods since the rank.
-#[derive(Drop)]
+#[derive(Clone, Copy)]
 pub(crate) struct Turned {
     pub(crate) place: u32,
     pub(crate) turns: u32,

@@ -7,7 +7,7 @@ use crate::values::{turn_by, value_after};
 use crate::{Form, Ticks, Units};
 
 // The place of the rise that comes next, and the value before it.
-#[derive(Drop)]
+#[derive(Clone, Copy)]
 pub struct Walk {
     pub place: usize,
     pub value: Units,

@@ -1,4 +1,5 @@
 // One field of a book: a step over it, or why it is refused.
+#![tactic(auto)]
 ghost use Rattle.std.specs.Prelude.{◌≡◌};
 ghost use Rattle.field.specs.Fields.{tag_number};
 
@@ -9,7 +10,7 @@ pub mod reader;
 pub mod steps;
 
 // The four fields.
-#[derive(Drop)]
+#[derive(Clone, Copy)]
 pub enum Tag {
     Version,
     Curve,
@@ -31,7 +32,7 @@ impl Tag {
 }
 
 // What a field's first byte says.
-#[derive(Drop)]
+#[derive(Clone, Copy)]
 pub enum Tagged {
     Known(Tag),
     Unknown,
@@ -39,7 +40,7 @@ pub enum Tagged {
 
 // Where a reader stands: what came before `place`, the first byte of the next field. No version is 0: that says that
 // none has come yet.
-#[derive(Drop)]
+#[derive(Clone, Copy)]
 pub struct State {
     pub version: u8,
     pub curves: usize,
@@ -54,7 +55,7 @@ impl State {
 }
 
 // A field's answer: the field and the state after it, or the refusal with its place.
-#[derive(Drop)]
+#[derive(Clone, Copy)]
 pub enum Field {
     Taken(Tag, State),
     Refused(Refusal, usize),

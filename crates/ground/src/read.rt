@@ -2,7 +2,7 @@
 use curve::{Curve, Ticks};
 
 // A value, how many times it is listed, and the place after it.
-#[derive(Drop)]
+#[derive(Clone, Copy)]
 struct Run {
     value: u32,
     times: u64,

@@ -14,7 +14,7 @@ use curve::walks::Walk;
 use curve::{Form, Operation, Ticks};
 
 // A whole number that may be below 0: plus less minus.
-#[derive(Drop)]
+#[derive(Clone, Copy)]
 struct Signed {
     plus: u64,
     minus: u64,

@@ -1,4 +1,5 @@
 // How far a claim has to be looked at.
+#![tactic(auto)]
 ghost use Rattle.std.specs.Prelude.{◌≡◌, ◌+◌, ◌≤◌, max};
 ghost use Rattle.minplus.specs.Claim.{equals};
 ghost use Rattle.minplus.specs.Divisor.{lcm};
@@ -20,7 +21,7 @@ mod divisor;
 // 4,096, in as many bits as `Ticks` has.
 pub(crate) const LIMIT: u32 = Claim::MAX_HORIZON as u32;
 
-#[derive(Drop)]
+#[derive(Clone, Copy)]
 pub enum Horizon {
     At(Ticks),
     // Above the limit. It has no number, so that none can be taken for the horizon: common multiples stop counting.
@@ -28,7 +29,7 @@ pub enum Horizon {
 }
 
 // A claim that breaks a limit of document 01 has no horizon.
-#[derive(Drop)]
+#[derive(Clone, Copy)]
 pub enum Measured {
     Horizon(Horizon),
     IllFormed,

@@ -1,5 +1,6 @@
 // The run over a book: a verdict on each claim, written as records into lent bytes, and the refusal or the totals as
 // one number.
+#![tactic(auto)]
 ghost use Rattle.std.specs.Prelude.{◌≡◌};
 ghost use Rattle.judge.specs.Run.{answer_of, buffer_of};
 
@@ -16,7 +17,7 @@ use crate::answers::{refused, totals_word};
 use crate::records::run;
 
 // How many claims were decided so.
-#[derive(Drop)]
+#[derive(Clone, Copy)]
 pub struct Totals {
     pub accepted: u64,
     pub refuted: u64,

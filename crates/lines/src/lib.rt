@@ -1,9 +1,10 @@
 // The parts of a line of text, for the programs.
+#![tactic(auto)]
 ghost use Rattle.std.specs.Prelude.{◌≤◌, min, ◌≡◌, length};
 ghost use Rattle.lines.specs.Parts.{Ends, place_from, with_digit, past_space, number_from};
 
 // A number and the place after it.
-#[derive(Drop)]
+#[derive(Clone, Copy)]
 pub struct Number {
     pub value: u64,
     pub next: usize,

@@ -101,7 +101,7 @@ pub from_same : (f g f' g' : ℕ → ℕ) (low k r n : ℕ) → ((m : ℕ) → m
     → least_from f g low k r n ≡ least_from f' g' low k r n
 unfolding least_from
 from_same f g f' g' low k r n same same' =
-    best_same min _ _ (min (r - low) k)
+    best_same min (λ i. f (n - (low + i)) + g (low + i)) (λ i. f' (n - (low + i)) + g' (low + i)) (min (r - low) k)
     (λ i le. omega (arith, same (n - (low + i)) (omega arith), same' (low + i) (omega (arith, le))))
 
 pub from_gains : {f : ℕ → ℕ} {T d c : ℕ} → Gains f T d c → (g : ℕ → ℕ) (low k : ℕ)
@@ -280,7 +280,7 @@ conv_half f n =
     ∙ ap (λ (k : ℕ). least_from f f 0 k n n) one_more
     ∙ sym (from_half f 0 n n (omega arith))
     ∙ ap (least (λ i. f (n - (0 + i)) + f (0 + i))) up_to
-    ∙ best_same min _ _ (n / 2) (λ u le. omega (arith, ap f (from_none u), ap (λ (x : ℕ). f (n - x)) (from_none u)))
+    ∙ best_same min (λ i. f (n - (0 + i)) + f (0 + i)) (λ u. f u + f (n - u)) (n / 2) (λ u le. omega (arith, ap f (from_none u), ap (λ (x : ℕ). f (n - x)) (from_none u)))
   where
     one_more : n + 1 - 1 ≡ n
     one_more = omega arith

@@ -12,7 +12,7 @@
 --                                      and the longest wait is 1
 use Rattle.std.specs.Prelude.{ℕ, ◌+◌, ◌-◌, ◌*◌, ◌/◌, ◌%◌, ◌≤◌, ◌<◌, min, ◌≡◌, refl}
 use Rattle.std.proofs.Common.{lit<, lit≤, ap, ◌∙◌, mod-lt, arith}
-use Rattle.std.proofs.Math.Logic.{Iff·rfl}
+use Rattle.std.proofs.Math.Logic.Iff.{rfl}
 use Rattle.std.proofs.Math.Nat.{mod-add-div'}
 use Rattle.minplus.specs.Claim.{Bound, Claim, Claimed, HorizontalDeviation, LeastWait, at_most, bounds, convolution, delay, due, equals, exactly}
 use Rattle.minplus.specs.Conv.{conv}
@@ -68,7 +68,7 @@ crossed_AB n le = crossed A B well_formed_A.period_positive well_formed_B.period
 pub folded_AB : (n : ℕ) → 2 ≤ n
     → conv (value A) (value B) n ≡ min (least_from (value A) (value B) 0 1 n n) (carried (λ m. least_from (value A) (value B) 2 0 m m) 2 1 2 n)
 unfolding B
-folded_AB = conv_folded (value_gains B well_formed_B.period_positive) well_formed_B.period_positive (reached_all (value A) (value B)) (λ m. Iff·rfl)
+folded_AB = conv_folded (value_gains B well_formed_B.period_positive) well_formed_B.period_positive (reached_all (value A) (value B)) (λ m. rfl)
 
 pub folded_BB : (n : ℕ) → 4 ≤ n
     → conv (value B) (value B) n ≡ min (least_from (value B) (value B) 0 1 (n / 2) n) (carried (λ m. least_from (value B) (value B) 2 0 (m / 2) m) 4 1 2 n)

@@ -1,1 +1,2 @@
 // This crate has definitions and theorems only: read specs/.
+#![tactic(auto)]

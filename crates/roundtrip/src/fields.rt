@@ -7,7 +7,7 @@ use field::State;
 use field::places::claim_at;
 
 // Curves and claims with the place at which they begin.
-#[derive(Drop)]
+#[derive(Clone, Copy)]
 pub(crate) enum Field {
     Version,
     Curve(usize),
@@ -48,7 +48,7 @@ pub(crate) fn first_values(f: Curve) -> [u32; Curve::MAX_LISTED] {
 }
 
 // A claim in numbers. The third is h for kinds 1 to 3 and X for 4 to 7.
-#[derive(Drop)]
+#[derive(Clone, Copy)]
 pub(crate) struct Statement {
     pub(crate) kind: u64,
     pub(crate) left: u64,

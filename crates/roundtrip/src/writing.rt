@@ -8,7 +8,7 @@ use writer::calls::{add_claim, add_curve, begin, close};
 use writer::{Called, Writer};
 
 // The bytes of a closed book, or the call that was refused.
-#[derive(Drop)]
+#[derive(Clone, Copy)]
 pub(crate) enum Writing {
     Closed(usize),
     Refused(usize, Refusal),

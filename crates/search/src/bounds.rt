@@ -5,7 +5,7 @@ ghost use Rattle.minplus.specs.Horizon.{max_horizon};
 ghost use Rattle.curve.specs.Steps.{Lent, curve_from};
 ghost use Rattle.curve.specs.Held.{held_as};
 ghost use Rattle.curve.specs.Claimed.{amount_of, bound_over};
-ghost use Rattle.search.specs.Break.{Comparable, first_above, first_of, later_by, more_by};
+ghost use Rattle.search.specs.Break.{Comparable, first_above, first_of_tried, later_by, more_by};
 
 use crate::{Compared, Found};
 use curve::walks::Walk;
@@ -83,7 +83,7 @@ pub fn first_over(
     tried: usize,
 ) -> Compared
     requires { Lent (held_as f left.now) × Lent (held_as g right.now) × (amount_of deviation ≤ max_x) × (tried ≤ max_horizon) }
-    ensures { result ≡ first_of (bound_over deviation at_most (curve_from (held_as f left.now)) (curve_from (held_as g right.now))) tried }
+    ensures { result ≡ first_of_tried (bound_over deviation at_most (curve_from (held_as f left.now)) (curve_from (held_as g right.now))) tried }
 {
     let later = later_by(deviation);
     let more = more_by(deviation);

@@ -1,5 +1,6 @@
 // The ticks of a claim: the first that breaks its rule, by walks over the curves. Kind 3 is searched in a crate of its
 // own.
+#![tactic(auto)]
 ghost use Rattle.std.specs.Prelude.{◌≡◌, ◌≤◌};
 ghost use Rattle.minplus.specs.Claim.{at_most, exactly, max_x};
 ghost use Rattle.minplus.specs.Horizon.{max_horizon};
@@ -7,7 +8,7 @@ ghost use Rattle.minplus.specs.Verdict.{less_holds};
 ghost use Rattle.curve.specs.Steps.{Lent, curve_from};
 ghost use Rattle.curve.specs.Held.{held_as};
 ghost use Rattle.curve.specs.Claimed.{amount_of, bound_over};
-ghost use Rattle.search.specs.Break.{LessAsked, first_of, is_nowhere};
+ghost use Rattle.search.specs.Break.{LessAsked, first_of_tried, is_nowhere};
 
 use curve::{Deviation, Form, Ticks, Units};
 
@@ -17,7 +18,7 @@ pub mod results;
 use crate::bounds::first_over;
 
 // The first tick that breaks the rule, with its left and its right value.
-#[derive(Drop)]
+#[derive(Clone, Copy)]
 pub enum Found {
     At {
         tick: Ticks,
@@ -28,7 +29,7 @@ pub enum Found {
 }
 
 // What a search comes to: what it found, and how many ticks it compared for that, from 0 on.
-#[derive(Drop)]
+#[derive(Clone, Copy)]
 pub struct Compared {
     pub found: Found,
     pub ticks: Ticks,
@@ -44,7 +45,7 @@ fn holds(
     horizon: usize,
 ) -> bool
     requires { Lent (held_as f left.now) × Lent (held_as g right.now) × (amount_of deviation ≤ max_x) × (horizon ≤ max_horizon) }
-    ensures { result ≡ is_nowhere (first_of (bound_over deviation at_most (curve_from (held_as f left.now)) (curve_from (held_as g right.now))) horizon).found }
+    ensures { result ≡ is_nowhere (first_of_tried (bound_over deviation at_most (curve_from (held_as f left.now)) (curve_from (held_as g right.now))) horizon).found }
 {
     let compared = first_over(deviation, f, left, g, right, horizon);
     let found = compared.found;

@@ -4,7 +4,7 @@ ghost use Rattle.minplus.specs.Claim.{equals};
 ghost use Rattle.curve.specs.Steps.{curve_from};
 ghost use Rattle.curve.specs.Held.{held_as};
 ghost use Rattle.search.specs.Beside.{beside_at, beside_of};
-ghost use Rattle.search.specs.Break.{Searched, first_of};
+ghost use Rattle.search.specs.Break.{Searched, first_of_tried};
 
 use crate::{Compared, Found};
 use curve::walks::Walk;
@@ -35,7 +35,7 @@ pub fn first_unlike(
     tried: usize,
 ) -> Compared
     requires { Searched (held_as f left.now) (held_as g right.now) (held_as h claimed.now) tried }
-    ensures { result ≡ first_of (equals (beside_of minimum) (curve_from (held_as f left.now)) (curve_from (held_as g right.now)) (curve_from (held_as h claimed.now))) tried }
+    ensures { result ≡ first_of_tried (equals (beside_of minimum) (curve_from (held_as f left.now)) (curve_from (held_as g right.now)) (curve_from (held_as h claimed.now))) tried }
 {
     let mut one = Walk::start(f);
     let mut other = Walk::start(g);

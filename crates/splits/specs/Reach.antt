@@ -14,7 +14,7 @@
 use Rattle.std.specs.Prelude.{ℕ, ◌+◌, ◌-◌, ◌*◌, ◌/◌, ◌≤◌, ◌<◌, min, ◌≡◌, refl, Bool, true, false, ◌↔◌}
 use Rattle.std.proofs.Common.{sym, subst, arith}
 use Rattle.std.proofs.Math.Path.{fun_ext}
-use Rattle.std.proofs.Math.Logic.{Iff·rfl}
+use Rattle.std.proofs.Math.Logic.Iff.{rfl}
 use Rattle.minplus.specs.Conv.{conv}
 use Rattle.minplus.specs.Gains.{Gains}
 use Rattle.minplus.specs.Folded.{Reached, least_from, carried, conv_early, conv_folded, first_half, from_gains, half_gains, reached_all, reached_half}
@@ -46,7 +46,7 @@ pub record OneCurve (f g : Curve) : Type 0 where
 
 pub late_first : (itself : Bool) (t m : ℕ) → (late_of itself t ≤ m) ↔ (t ≤ reach_of itself m)
 late_first true t m = first_half t m
-late_first false t m = Iff·rfl
+late_first false t m = rfl
 
 pub reach_inside : (itself : Bool) (n : ℕ) → reach_of itself n ≤ n
 reach_inside true n = omega arith

@@ -1,9 +1,10 @@
 // Kind 3, the convolution: ticks and splits, nested.
+#![tactic(auto)]
 ghost use Rattle.std.specs.Prelude.{◌≡◌, true, ◌+◌, ◌≤◌, length, set};
 ghost use Rattle.minplus.specs.Claim.{convolution, equals};
 ghost use Rattle.curve.specs.Steps.{Lent, curve_from, stepped};
 ghost use Rattle.curve.specs.Held.{held_as};
-ghost use Rattle.search.specs.Break.{Searched, first_of};
+ghost use Rattle.search.specs.Break.{Searched, first_of_tried};
 ghost use Rattle.splits.specs.Parts.{carried_part, listed_over, work_room, Carries, carried_in};
 ghost use Rattle.splits.specs.Reach.{late_of, reach_of};
 ghost use Rattle.splits.specs.Splits.{left_curve, right_curve, Foldable};
@@ -82,7 +83,7 @@ fn first_split(
     tried: usize,
 ) -> Compared
     requires { Foldable itself (left_curve rank period increment work.old) (right_curve start span gain work.old) work.old tried × Lent (held_as h claimed.now) }
-    ensures { result ≡ first_of (equals convolution (left_curve rank period increment work.old) (right_curve start span gain work.old) (curve_from (held_as h claimed.now))) tried }
+    ensures { result ≡ first_of_tried (equals convolution (left_curve rank period increment work.old) (right_curve start span gain work.old) (curve_from (held_as h claimed.now))) tried }
 {
     let count = start + span;
     let settled = rank + period + count - 1;
@@ -183,7 +184,7 @@ pub fn first_apart(
     work: &mut [u32],
 ) -> Compared
     requires { Searched (held_as f left.now) (held_as g right.now) (held_as h claimed.now) tried × (itself ≡ true → held_as f left.now ≡ held_as g right.now) × (work_room ≤ length work.old) }
-    ensures { result ≡ first_of (equals convolution (curve_from (held_as f left.now)) (curve_from (held_as g right.now)) (curve_from (held_as h claimed.now))) tried }
+    ensures { result ≡ first_of_tried (equals convolution (curve_from (held_as f left.now)) (curve_from (held_as g right.now)) (curve_from (held_as h claimed.now))) tried }
 {
     let rank = f.rank.0 as usize;
     let period = f.period.0 as usize;

@@ -1,4 +1,5 @@
 // One claim over its curves: the verdict.
+#![tactic(auto)]
 ghost use Rattle.std.specs.Prelude.{◌≡◌, true, ◌≤◌, length};
 ghost use Rattle.minplus.specs.Verdict.{not_judged, record_on, record_with};
 ghost use Rattle.curve.specs.Steps.{curve_from};
@@ -17,7 +18,7 @@ use search::results::first_unlike;
 use search::{Compared, Found, less_holds};
 use splits::{WORK, first_apart};
 
-#[derive(Drop)]
+#[derive(Clone, Copy)]
 pub enum Verdict {
     Accepted,
     RefutedAt {
@@ -31,21 +32,21 @@ pub enum Verdict {
 }
 
 // A verdict, and how many ticks were tried for it.
-#[derive(Drop)]
+#[derive(Clone, Copy)]
 pub struct Decided {
     pub verdict: Verdict,
     pub tried: Ticks,
 }
 
 // A claim that breaks a limit has no verdict.
-#[derive(Drop)]
+#[derive(Clone, Copy)]
 pub enum Judged {
     Decided(Decided),
     IllFormed,
 }
 
 // The numbers of a verdict's record.
-#[derive(Drop)]
+#[derive(Clone, Copy)]
 pub struct Record {
     pub code: u8,
     pub tick: Ticks,

@@ -1,4 +1,5 @@
 // A book, written field by field into a lent buffer.
+#![tactic(auto)]
 ghost use Rattle.std.specs.Prelude.{◌≡◌};
 ghost use Rattle.writer.specs.Writing.{fresh};
 
@@ -10,7 +11,7 @@ pub mod fields;
 
 // Where a writer stands. The state is that of a reader of what is written so far: its place is where the next field
 // goes.
-#[derive(Drop)]
+#[derive(Clone, Copy)]
 pub struct Writer {
     pub state: State,
     pub closed: bool,
@@ -34,7 +35,7 @@ impl Writer {
 }
 
 // A call's answer: taken (Sound) or refused, and where the writer stands then. A refused call leaves it where it was.
-#[derive(Drop)]
+#[derive(Clone, Copy)]
 pub struct Called {
     pub checked: Checked,
     pub writer: Writer,

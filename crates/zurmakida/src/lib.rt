@@ -1,4 +1,5 @@
 // The entries for C, all in one archive. include/zurmakida.h says what a caller has to know.
+#![tactic(auto)]
 ghost use Rattle.std.specs.Prelude.{◌≡◌};
 ghost use Rattle.book.specs.Values.{value_asked, told};
 ghost use Rattle.judge.specs.Run.{answer_of, buffer_of};
@@ -14,7 +15,7 @@ use crate::states::{answered, writer_of};
 
 // A call's answer: the refusal's number, 0 where the call is taken, and the writer's state after it.
 #[repr(C)]
-#[derive(Drop)]
+#[derive(Clone, Copy)]
 pub struct BookCall {
     pub refusal: u64,
     pub state: u64,

@@ -1,0 +1,55 @@
+use Prim.Native.Nat.{ℕ}
+use mathlib.Core.Path.{◌≡◌, sym, ap, ◌∙◌}
+use mathlib.Core.Option.{Option}
+use Rattle.minplus.specs.Claim.{Kind, result, bound, sum, minimum, convolution, delay, backlog, at_most, exactly, kind_number, kind_none}
+use Rattle.curve.specs.declared.Claim.{Claim}
+use Rattle.curve.specs.declared.Claim.TheVariants.{AtMost, Exactly}
+use Rattle.curve.specs.declared.Deviation.TheVariants.{Delay, Backlog}
+use Rattle.curve.specs.Kinds.{named_by, named_as, limited_by, limited-within}
+use Rattle.curve.proofs.Claim.new.Goals as goal
+
+-- X itself, since a larger one is not looked at
+amount : (c : goal.After-within-amount) (F : ℕ → Claim) → limited_by c.args.x (F c.within-amount.result) ≡ limited_by c.args.x (F c.args.x)
+amount c F = rw c.within-amount.ensures (limited-within F c.args.x)
+
+pub returns-in-1 : goal.returns-in-1
+unfolding named_by
+returns-in-1 c = rw c.in_default.keys1
+
+pub returns-in-2 : goal.returns-in-2
+unfolding named_by
+returns-in-2 c = rw c.in_default.keys2
+
+pub returns-in-3 : goal.returns-in-3
+unfolding named_by
+returns-in-3 c = rw c.in_default.keys3
+
+pub returns-in-4 : goal.returns-in-4
+unfolding named_by
+returns-in-4 c = rw c.in_default.keys4 (c.limited.ensures ∙ amount c (λ (y : ℕ). AtMost (Delay (record { 0 = y }))))
+
+pub returns-in-5 : goal.returns-in-5
+unfolding named_by
+returns-in-5 c = rw c.in_default.keys5 (c.limited-in-5.ensures ∙ amount c (λ (y : ℕ). Exactly (Delay (record { 0 = y }))))
+
+pub returns-in-6 : goal.returns-in-6
+unfolding named_by
+returns-in-6 c = rw c.in_default.keys6 (c.limited-in-6.ensures ∙ amount c (λ (y : ℕ). AtMost (Backlog (record { 0 = y }))))
+
+pub returns-in-7 : goal.returns-in-7
+unfolding named_by
+returns-in-7 c = rw c.in_default.keys7 (c.limited-in-7.ensures ∙ amount c (λ (y : ℕ). Exactly (Backlog (record { 0 = y }))))
+
+pub returns-in_default : goal.returns-in_default
+unfolding named_by kind_number
+returns-in_default c =
+    ap (λ (κ : Option Kind). named_as κ c.args.x) (sym (kind_none c.args.kind other))
+  where
+    other : (κ : Kind) → ¬ (c.args.kind ≡ kind_number κ)
+    other (result sum) = c.in_default.rest.0.0.0.0.0.0.1
+    other (result minimum) = c.in_default.rest.0.0.0.0.0.1
+    other (result convolution) = c.in_default.rest.0.0.0.0.1
+    other (bound delay at_most) = c.in_default.rest.0.0.0.1
+    other (bound delay exactly) = c.in_default.rest.0.0.1
+    other (bound backlog at_most) = c.in_default.rest.0.1
+    other (bound backlog exactly) = c.in_default.rest.1

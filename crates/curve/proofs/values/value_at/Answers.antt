@@ -1,0 +1,6 @@
+use Rattle.curve.specs.Steps.{value_by}
+use Rattle.curve.proofs.values.value_at.Goals as goal
+
+pub returns : goal.returns
+unfolding value_by
+returns c = rw (c.value_after.ensures, c.turn_by.ensures)
