@@ -5,11 +5,7 @@ use native.Mathlib.Omega.{arith}
 use lib.Dec.{ltb}
 use borrow.Author.Tests.{lt-ltb, le-ltb, ltb-true, ltb-false}
 use Rattle.field.specs.Fields.{head_length}
-use Rattle.field.proofs.steps.torn_at.Statement.{statement}
-use Rattle.field.proofs.steps.torn_at.Tie as tie
-
-returns : tie.Need-returns
-returns c = let a = c.before.args in sym (lt-ltb (a.length - a.place) head_length (omega arith))
+use Rattle.field.proofs.steps.torn_at.Goals as goal
 
 -- a head past the end, from either side
 turned : (length place : ℕ) → head_length ≤ length → ltb (length - head_length) place ≡ ltb (length - place) head_length
@@ -19,8 +15,8 @@ turned length place long = go (ltb (length - head_length) place) refl
     go true e = sym (lt-ltb (length - place) head_length (omega (arith, ltb-true (length - head_length) place e, long)))
     go false e = sym (le-ltb (length - place) head_length (omega (arith, ltb-false (length - head_length) place e, long)))
 
-returns-2 : tie.Need-returns-2
-returns-2 c = turned c.before.args.length c.before.args.place c.if1.false
+pub returns-then-length-lt-HEAD : goal.returns-then-length-lt-HEAD
+returns-then-length-lt-HEAD c = let a = c.args in sym (lt-ltb (a.length - a.place) head_length (omega arith))
 
-pub torn-at-spec : {M : Type 1} → statement M
-torn-at-spec = tie.close (tie.spec returns returns-2)
+pub returns : goal.returns
+returns c = turned c.args.length c.args.place c.if-length-lt-HEAD.false
