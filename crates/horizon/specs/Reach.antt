@@ -19,7 +19,7 @@ use Rattle.std.proofs.Common.{sym, ap, ◌∙◌, arith, mul-le-mul, le_of_lt}
 use Rattle.std.proofs.Math.Nat.{max_comm}
 use Rattle.minplus.specs.Curve as C
 use Rattle.minplus.specs.Divisor.{lcm}
-use Rattle.minplus.specs.Ranks.{common_comm, by_rates_lem}
+use Rattle.minplus.proofs.Ranks.{common_comm, by_rates_lem}
 use Rattle.minplus.specs.Claim as M
 use Rattle.minplus.specs.Horizon as H
 use Rattle.minplus.specs.Horizon.{Slower}

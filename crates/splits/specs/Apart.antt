@@ -10,7 +10,8 @@ use Rattle.std.proofs.Math.Bool.{not}
 use native.Mathlib.Omega.{arith}
 use Rattle.minplus.specs.Search.{best_same}
 use Rattle.minplus.specs.Conv.{conv}
-use Rattle.minplus.specs.Curve.{Curve, value, value_at_most, value_gains, value_only}
+use Rattle.minplus.specs.Curve.{Curve, value, value_at_most, value_gains}
+use Rattle.minplus.proofs.Curve.{value_only}
 use Rattle.minplus.specs.Claim.{convolution, due, equals}
 use Rattle.minplus.specs.Verdict.{breaks, left_at, right_at}
 use Rattle.curve.specs.Steps.{Steps, curve_from, step_count, stepped}

@@ -25,7 +25,8 @@ use Rattle.minplus.specs.Divisor.{lcm, lcm-left, lcm_positive, lcm_right}
 use Rattle.minplus.specs.Gains.{Gains, below_forever, equal_forever, gains_later, gains_multiple, outgrows}
 use Rattle.minplus.specs.Horizon.{common_period, full_period, horizon, last_rank, max_horizon, rank_of}
 use Rattle.minplus.specs.Meaning.{Loose, Meaning, Outpaced, Proper, Rule, Tight}
-use Rattle.minplus.specs.Ranks.{common_positive, gain_over, gain_le, gain_lt, left_gains, rank_gains, right_gains}
+use Rattle.minplus.specs.Ranks.{gain_over}
+use Rattle.minplus.proofs.Ranks.{common_positive, gain_le, gain_lt, left_gains, rank_gains, right_gains}
 use Rattle.minplus.specs.Search.{IsFirst, first_at, first_below_lem, first_nowhere, first_below, nowhere, somewhere, true_unless, false_unless}
 use Rattle.minplus.specs.Verdict.{Verdict, accepted, breaks, by_rate, first_break, codes_in_order, left_at, less_holds, not_judged, not_least, refuted_at, refuted_by_rate, right_at, tried, verdict}
 

@@ -16,16 +16,19 @@ use Rattle.std.proofs.Math.Logic.Iff.{rfl}
 use Rattle.std.proofs.Math.Nat.{mod-add-div'}
 use Rattle.minplus.specs.Claim.{Bound, Claim, Claimed, HorizontalDeviation, LeastWait, at_most, bounds, convolution, delay, due, equals, exactly}
 use Rattle.minplus.specs.Conv.{conv}
-use Rattle.minplus.specs.Curve.{WellFormed, value, value_gains, value_repeats, well_formed_lem, well_formed}
-use Rattle.minplus.specs.Delay.{bounded_exactly, delay_means, gains_serve, least_wait}
-use Rattle.minplus.specs.Exact.{accepted_exactly, rate_exactly}
-use Rattle.minplus.specs.Folded.{carried, conv_folded, first_half, least_from, reached_all, reached_half}
+use Rattle.minplus.specs.Curve.{WellFormed, value, value_gains, well_formed_lem, well_formed}
+use Rattle.minplus.proofs.Curve.{value_repeats}
+use Rattle.minplus.proofs.Delay.{bounded_exactly, delay_means, gains_serve, least_wait}
+use Rattle.minplus.proofs.Exact.{accepted_exactly, rate_exactly}
+use Rattle.minplus.specs.Folded.{carried, first_half, least_from}
+use Rattle.minplus.proofs.Folded.{conv_folded, reached_all, reached_half}
 use Rattle.minplus.specs.Gains.{every_period}
 use Rattle.minplus.specs.Ground.{A, B, conv_ab, ten, vendor}
 use Rattle.minplus.specs.Horizon.{minimum_n}
 use Rattle.minplus.specs.Meaning.{Outpaced, well_formed_proper}
-use Rattle.minplus.specs.Ranks.{crossed}
-use Rattle.minplus.specs.Rising.{NeverFalls, rising_exactly}
+use Rattle.minplus.proofs.Ranks.{crossed}
+use Rattle.minplus.specs.Rising.{NeverFalls}
+use Rattle.minplus.proofs.Rising.{rising_exactly}
 use Rattle.minplus.specs.Verdict.{verdict}
 
 well_formed_A : WellFormed A
