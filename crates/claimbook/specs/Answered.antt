@@ -25,7 +25,8 @@ use Rattle.book.specs.Sound.{sound_book}
 use Rattle.judge.specs.Answer.{accepted_in, refuted_in, unjudged_in, claims_in, record_size, record_in}
 use Rattle.judge.specs.Claims.{record_for, verdict_for}
 use Rattle.judge.specs.Run.{Room, answer_of, buffer_of, buffer_on, claim_at, verdict_at, record_at, run_sound}
-use Rattle.judge.specs.Inspector.{Judged, Refused, record_back}
+use Rattle.judge.specs.Inspector.{Judged, Refused}
+use Rattle.judge.proofs.Inspector.{record_back}
 use Rattle.report.specs.Text.{bytes}
 use Rattle.report.specs.Lines as lines
 use Rattle.report.specs.Lines.{max_line, part, verdict_words, claim_line, claim_lines, total_line, certified_line, refused_line, report_in, report_refused, report_judged}
