@@ -12,7 +12,7 @@ abbrev pub summed : ℕ → ℕ → ℕ → List ℕ → Steps
 summed T d first rises = record { rank = T; period = d; increment = 0; first = first; rises = rises }
 
 abbrev pub invariant-loop-n : goal.invariant-loop-n
-invariant-loop-n l = 
+invariant-loop-n l =
     let s : Steps = summed l.t (l.count - l.t) l.initial.value l.rises in
     ((l.n ≤ l.end) × (l.end ≡ min (length l.initial.out) 4097)) × ((l.t ≤ l.count) × (l.count < 8_589_934_592))
     × ((l.place ≡ place_at l.t (l.count - l.t) l.n) × (l.value ≡ stepped s l.n) × (l.value ≤ (l.n + 1) * largest)) × (l.out ≡ over (cell (stepped s)) l.n l.initial.out)

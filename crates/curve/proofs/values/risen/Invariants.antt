@@ -5,7 +5,7 @@ use Rattle.curve.specs.Steps.{sum_to, largest}
 use Rattle.curve.proofs.values.risen.Given as goal
 
 abbrev pub invariant-loop-i : goal.invariant-loop-i
-invariant-loop-i l = 
+invariant-loop-i l =
     ((l.from ≤ l.i) × (l.i ≤ l.from + l.count)) × ((l.end ≡ min (l.from + l.count) (length l.rises)) × (l.count < 4_294_967_296))
     × ((l.sum ≡ sum_to (λ j. get_or l.rises (l.from + j) 0) (l.i - l.from)) × (l.sum ≤ (l.i - l.from) * largest))
 
