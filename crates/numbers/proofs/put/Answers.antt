@@ -2,7 +2,8 @@ use Prim.Native.Nat.{◌+◌, ◌-◌, ◌%◌, ◌≤◌}
 use mathlib.Core.Path.{◌≡◌, refl, sym, ◌∙◌}
 use native.Mathlib.Omega.{arith}
 use lib.ListN.{length, length-set}
-use Rattle.numbers.specs.Put.{put, bytes_of, put_fits, put_short, put-nothing, put-bytes, length-bytes}
+use Rattle.numbers.specs.Put.{put, bytes_of, put_fits, put_short, put-nothing, length-bytes}
+use Rattle.numbers.proofs.HighFirst.{put-bytes}
 use Rattle.numbers.proofs.put.Goals as goal
 
 pub returns-then-length-width : goal.returns-then-length-width
