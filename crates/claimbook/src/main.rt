@@ -1,5 +1,6 @@
 // A book on standard input, document 01's lines on standard output.
 #![tactic(auto)]
+
 ghost use Rattle.std.specs.Prelude.{◌≡◌, length};
 ghost use Rattle.numbers.specs.Put.{put};
 ghost use Rattle.report.specs.Written.{IsPrefixLen};

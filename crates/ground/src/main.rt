@@ -1,6 +1,7 @@
 // Document 01's ground, its errors that look right and its edges, run: standard input has the cases, and each prints a
 // line.
 #![tactic(auto)]
+
 use curve::values::value_at;
 use curve::{Claim, Curve, Named, Ticks};
 use horizon::{Horizon, Measured, horizon_of};

@@ -1,5 +1,6 @@
 // A stream read into lent bytes, for the programs.
 #![tactic(auto)]
+
 ghost use Rattle.std.specs.Io.{ReadsAtMost};
 
 use std::io::{Read, Result};

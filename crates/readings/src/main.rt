@@ -1,6 +1,7 @@
 // The reader's answers on the books of data/. Standard input has the questions, a line each: a book's name; a name and
 // a claim's number; a name, a curve's number and a tick.
 #![tactic(auto)]
+
 use book::values::curve_value;
 use book::whole::read;
 use book::{Book, Outcome};

@@ -1,6 +1,7 @@
 // Both directions of the round trip on the books of data/, which are those of books/. Standard input names them, a line
 // each. The curves and claims of a sound book are written again, and what was written is read again.
 #![tactic(auto)]
+
 use book::whole::read;
 use book::{Book, Outcome};
 use content::Refusal;
