@@ -15,7 +15,8 @@ use Rattle.std.proofs.Math.Nat.{zero-mod, zero-div, mod-lt, mod_self, suc-mod, a
 use Rattle.std.proofs.Math.Decide.{dec_le}
 use Rattle.minplus.specs.Gains.{Gains}
 use Rattle.minplus.specs.Curve as C
-use Rattle.minplus.specs.Curve.{value, value_only, WellFormed}
+use Rattle.minplus.specs.Curve.{value, WellFormed}
+use Rattle.minplus.proofs.Curve.{value_only}
 use Rattle.curve.specs.Steps.{Steps, step_count, rise_in, reached, risen_to, curve_from, place_after, place_at, stepped, value_by, sum_same, close_sum, well_closes, listed-reached}
 use Rattle.curve.specs.Rises.{steps_of, steps_back, steps_good}
 

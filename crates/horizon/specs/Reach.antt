@@ -19,7 +19,7 @@ use Rattle.std.proofs.Common.{sym, ap, ◌∙◌, arith, mul-le-mul, le_of_lt}
 use Rattle.std.proofs.Math.Nat.{max_comm}
 use Rattle.minplus.specs.Curve as C
 use Rattle.minplus.specs.Divisor.{lcm}
-use Rattle.minplus.specs.Ranks.{common_comm, by_rates_lem}
+use Rattle.minplus.proofs.Ranks.{common_comm, by_rates_lem}
 use Rattle.minplus.specs.Claim as M
 use Rattle.minplus.specs.Horizon as H
 use Rattle.minplus.specs.Horizon.{Slower}
@@ -31,7 +31,6 @@ use Rattle.curve.specs.Held.{held_as, rates_of}
 use Rattle.curve.specs.Claimed.{claim_over}
 use Rattle.horizon.specs.declared.crossing.Signed.{Signed}
 use Rattle.horizon.specs.declared.Measured.{Measured}
-use Rattle.horizon.specs.declared.Measured.TheVariants as Measured
 use Rattle.horizon.specs.Capped.{capped, capped_twice, horizon_from, max-capped, plus_capped}
 
 abbrev pub choice : Bool → ℕ → ℕ → ℕ

@@ -29,13 +29,15 @@ use borrow.Author.Tests.{ltb-true, ltb-false, leb-true, le-leb, eqb-true, eq-eqb
 use Rattle.minplus.specs.Search.{both_true, false_unless}
 use Rattle.minplus.specs.Curve.{Curve, WellFormed, value}
 use Rattle.minplus.specs.Claim.{Claim, Claimed, Kind, Tightness, WellFormedClaim, at_most, bound, bounds, convolution, delay, due, equals, exactly, max_x, result}
-use Rattle.minplus.specs.Conv.{conv, conv_below, conv_attained}
+use Rattle.minplus.specs.Conv.{conv, conv_attained}
+use Rattle.minplus.proofs.Conv.{conv_below}
 use Rattle.minplus.specs.Horizon.{horizon, max_horizon}
 use Rattle.minplus.specs.Verdict.{Record, Verdict, accepted, refuted_at, refuted_by_rate, not_least, not_judged, record_of, record_on, record_with, verdict, left_at, right_at, tried}
 use Rattle.minplus.specs.Recorded.{verdict_by, verdict-by}
 use Rattle.minplus.specs.Meaning.{Meaning, Proper, Rule, Loose, Outpaced, well_formed_proper}
-use Rattle.minplus.specs.Exact.{verdict_exact, accepted_exactly, rate_exactly}
-use Rattle.minplus.specs.Delay.{Delayed, delay_means}
+use Rattle.minplus.proofs.Exact.{verdict_exact, accepted_exactly, rate_exactly}
+use Rattle.minplus.specs.Delay.{Delayed}
+use Rattle.minplus.proofs.Delay.{delay_means}
 use Rattle.content.specs.declared.Refusal.{Refusal}
 use Rattle.content.specs.declared.Refusal.TheVariants.{Torn, UnknownTag, OutOfOrder, TooMany, WrongVersion, CurveLength, CurvePeriod, TooManyUnits, CurveFalls, WrongClaim, NoSuchCurve, TooLarge, WrongEnd, NoRoom, BookTooLong}
 use Rattle.content.specs.declared.Stated.{Stated}

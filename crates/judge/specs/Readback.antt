@@ -6,14 +6,15 @@ use Rattle.std.specs.Prelude.{ℕ, zero, suc, ◌+◌, ◌*◌, ◌^◌, ◌≤�
 use Rattle.std.proofs.Common.{sym, ap, ◌∙◌, append_assoc, append-nil, arith, below_more}
 use Rattle.minplus.specs.Curve.{value, value_at_most}
 use Rattle.minplus.specs.Claim.{Claim, WellFormedClaim, equals, bounds, sum, minimum, convolution, delay, backlog, due, allowed}
-use Rattle.minplus.specs.Conv.{conv_below}
+use Rattle.minplus.proofs.Conv.{conv_below}
 use Rattle.minplus.specs.Horizon.{horizon, max_horizon}
 use Rattle.minplus.specs.Verdict.{Record, Verdict, accepted, refuted_at, refuted_by_rate, not_least, not_judged, record_of, record_on, verdict, left_at, right_at, tried}
 use Rattle.minplus.specs.Meaning.{Meaning, well_formed_proper}
-use Rattle.minplus.specs.Exact.{verdict_exact}
+use Rattle.minplus.proofs.Exact.{verdict_exact}
 use Rattle.numbers.specs.Numbers.{number_at}
 use Rattle.numbers.specs.Put.{put, bytes_of, length-bytes}
-use Rattle.numbers.specs.Back.{number_on, number_front, number_back}
+use Rattle.numbers.specs.Back.{number_on}
+use Rattle.numbers.proofs.HighFirst.{number_front, number_back}
 use Rattle.judge.specs.Answer.{record_size, record_in}
 use Rattle.judge.specs.Records.{record_bytes, records_to, length_records, record_parts}
 

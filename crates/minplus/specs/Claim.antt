@@ -9,12 +9,13 @@
 --     VerticalDeviation    the trade's definition of the backlog, which kind 7 claims (backlog_exact)
 --     LeastWait            how long f(s) waits until g serves it; WaitsAtMost: no tick waits longer than X, which kind
 --                          4 claims where g never falls
---     HorizontalDeviation  source document 003's definition of the delay, which kind 5 claims there (Delay.antt)
---     Kind, kind_number     the seven kinds and their numbers
---     kind_by               the kind of a number, if it is one's: exactly what kind_number says (kind_by_lem, kind_none)
---     Claim, kind_of        a claim over its curves, and its kind
---     WellFormedClaim      its curves are well formed and X is within its limit (max_x); well_formed_claim is the same as
---                          a test (well_formed_claim_lem)
+--     HorizontalDeviation  source document 003's definition of the delay, which kind 5 claims there
+--                          (delay_means, proofs/Delay.antt)
+--     Kind, kind_number    the seven kinds and their numbers
+--     kind_by              the kind of a number, if it is one's: exactly what kind_number says (kind_by_lem, kind_none)
+--     Claim, kind_of       a claim over its curves, and its kind
+--     WellFormedClaim      its curves are well formed and X is within its limit (max_x); well_formed_claim is the same
+--                          as a test (well_formed_claim_lem)
 --     Claimed              what it says: the table's right column
 use Rattle.std.specs.Prelude.{ℕ, ◌+◌, ◌-◌, ◌≤◌, ◌<◌, min, ◌≡◌, refl, Bool, true, ◌&&◌, List, [], ◌∷◌, ◌↔◌, leb}
 use Rattle.std.proofs.Math.Option.{Option, none, some}

@@ -5,7 +5,7 @@
 -- is below the one before it." Document 02, A2: "Refusal 9 must also be given when f(T)+c is below f(T+d-1)."
 --
 --     Curve                     rank T, period d, increment c, listed values
---     max_listed, max_units       the limits
+--     max_listed, max_units     the limits
 --     count f, listed_at f n     T + d, and the n-th listed value
 --     Rising f                  the two rules by which a curve never falls: in its list, and over the seam where one
 --                               period meets the next; Rising.antt: they hold exactly when its value never falls
@@ -13,14 +13,15 @@
 --                               computes (well-formed), seam_holds f its last one
 --     value f n                 f(n), at any tick n
 --     value-listed              below T + d it is the listed value
---     value_gains               from T on it gains c over d; value_repeats: and k*c over k*d
+--     value_gains               from T on it gains c over d; value_repeats: and k*c over k*d (proofs/Curve.antt)
 --     value_only                nothing else has both: the first two sentences above leave one function
+--                               (proofs/Curve.antt)
 --     period_fits, rank_fits, value_at_most     how large they can be
 --     value_after, value_no_period     the rule with its cases told apart, for code that tells them apart
 use Rattle.std.specs.Prelude.{ℕ, suc, ◌+◌, ◌-◌, ◌*◌, ◌/◌, ◌%◌, ◌≤◌, ◌<◌, min, ◌≡◌, Bool, true, ◌&&◌, List, ◌↔◌, length, get_or, leb, eqb}
-use Rattle.std.proofs.Common.{sym, ap, ◌∙◌, arith, mod-eq_of_lt, mod-lt, div-le_self, mul-le-mul, leb-true, eqb-true, le-leb, eq-eqb}
+use Rattle.std.proofs.Common.{ap, ◌∙◌, arith, mod-eq_of_lt, mod-lt, div-le_self, mul-le-mul, leb-true, eqb-true, le-leb, eq-eqb}
 use Rattle.std.proofs.Math.Nat.{div-eq_of_lt, add-mod_right, add-div_right, mod-zero, div-zero, min-eq_right}
-use Rattle.minplus.specs.Gains.{Gains, every_period, gains_many}
+use Rattle.minplus.specs.Gains.{Gains}
 use Rattle.minplus.specs.Search.{all_below, all_below_lem, both_true}
 
 pub record Curve : Type 0 where
@@ -100,15 +101,6 @@ value_gains f positive = record {
       ∙ ap (λ (q : ℕ). listed_at f (min n f.rank + (n - f.rank) % f.period) + q * f.increment) more
       ∙ omega arith;
 }
-
-pub value_repeats : (f : Curve) → 1 ≤ f.period → (n k : ℕ) → f.rank ≤ n → value f (n + k * f.period) ≡ value f n + k * f.increment
-value_repeats f positive n k le = (gains_many (value_gains f positive) k).gain n le
-
-pub value_only : (f : Curve) → 1 ≤ f.period → (F : ℕ → ℕ) → ((n : ℕ) → n < count f → F n ≡ listed_at f n)
-    → Gains F f.rank f.period f.increment → (n : ℕ) → F n ≡ value f n
-value_only f positive F listed gains =
-    every_period (λ n. F n ≡ value f n) f.rank f.period positive (λ n lt. listed n lt ∙ sym (value-listed f positive n lt))
-    (λ n le e. gains.gain n le ∙ ap (λ (x : ℕ). x + f.increment) e ∙ sym ((value_gains f positive).gain n le))
 
 pub value_after : (f : Curve) (n : ℕ) → f.rank ≤ n
     → value f n ≡ listed_at f (f.rank + (n - f.rank) % f.period) + (n - f.rank) / f.period * f.increment

@@ -266,7 +266,7 @@ table =
     ∷ verdict_of (bounds delay at_most ten (flat 2 1 9) 1_000_000_000) is judged (refuted_at 0 10 9)
     ∷ verdict_of (bounds delay exactly ten (curve 2 1 0 (0 ∷ 9 ∷ 10 ∷ [])) 2) is judged accepted
     -- the vendor's curve falls, so the table's exact delay on it is none that anybody would measure: 19, where no tick
-    -- waits longer than 1 (vendor_waits, Met.antt). No book can hold it
+    -- waits longer than 1 (vendor_waits, proofs/MetBy.antt). No book can hold it
     ∷ value_of vendor 2 is number 1
     ∷ verdict_of (bounds delay exactly ten vendor 19) is judged accepted
     ∷ formed vendor is truth false

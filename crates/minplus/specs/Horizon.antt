@@ -13,8 +13,8 @@
 --                                   increased by
 --     rounded_up, crossing    x/y rounded up; N from A and B
 --     minimum_n, convolution_n N where f is the slower one; Crossing.antt pins both without shifts
---     rank_of                 R, by slow_minimum and slow_convolution where f is the slower one; last_rank and full_period:
---                            K and P
+--     rank_of                 R, by slow_minimum and slow_convolution where f is the slower one; last_rank and
+--                            full_period: K and P
 --     horizon, max_horizon    of a claim, and the limit above which nothing is judged
 use Rattle.std.specs.Prelude.{ℕ, zero, suc, ◌+◌, ◌-◌, ◌*◌, ◌/◌, ◌<◌, min, max, Bool, true, false, ltb}
 use Rattle.minplus.specs.Search.{best}

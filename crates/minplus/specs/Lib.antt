@@ -1,5 +1,5 @@
 -- The mathematics of document 01. First what is defined, in its order: a reader holds these beside it. Then what is
--- proved.
+-- proved of it; what rests on another theorem, as the exactness of the verdict, is in proofs/.
 pub mod Curve
 pub mod Conv
 pub mod Claim
@@ -13,9 +13,7 @@ pub mod Gains
 pub mod Rising
 pub mod Crossing
 pub mod Ranks
-pub mod Exact
 pub mod Delay
 pub mod Recorded
 pub mod Folded
 pub mod Ground
-pub mod Met

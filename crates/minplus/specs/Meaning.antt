@@ -1,12 +1,13 @@
--- What a verdict says of its claim at every tick, without end. verdict_exact (Exact.antt) shows that the computed
--- verdict is the one verdict that says what is so.
+-- What a verdict says of its claim at every tick, without end. verdict_exact (proofs/Exact.antt) shows that the
+-- computed verdict is the one verdict that says what is so.
 --
 --     Rule c n      the claim's rule at one tick: the Claims table without its "at every tick"
 --     Proper c      no curve of c has period 0: all that the theorems ask, and a well-formed claim is such
 --                   (well_formed_proper)
 --     Tight c       kinds 5 and 7: X = 0, or X-1 fails at some tick
 --     Loose c       kinds 5 and 7: X > 0, and X-1 holds at every tick
---     Outpaced c    kinds 4 to 7: f is faster than g; rate_exactly (Exact.antt): exactly this is what code 3 tests
+--     Outpaced c    kinds 4 to 7: f is faster than g; rate_exactly (proofs/Exact.antt): exactly this is what code 3
+--                   tests
 --     Meaning c v   the table of verdicts, over all ticks
 use Rattle.std.specs.Prelude.{ℕ, ◌-◌, ◌≤◌, ◌<◌, ◌≡◌, ◌⊎◌}
 use Rattle.minplus.specs.Claim.{Claim, WellFormedClaim, allowed, at_most, bounds, due, equals, exactly}

@@ -1,16 +1,16 @@
 -- The verdict on a claim, computed by document 01's finite rule, and the numbers of its record.
 --
--- Document 01, 'Verdicts', and document 02, A3. Nothing here speaks of ticks beyond the horizon: Exact.antt shows what
--- a verdict says of them.
+-- Document 01, 'Verdicts', and document 02, A3. Nothing here speaks of ticks beyond the horizon: proofs/Exact.antt
+-- shows what a verdict says of them.
 --
---     Verdict               the five verdicts
---     left_at, right_at       the two values that the record of a refuted tick holds
---     breaks, tried         whether a tick breaks the rule; how many ticks, from 0 on, are tried; first_break: the first
---                           of them that does
---     by_rate, less_holds     the tests of codes 3 and 4
---     codes_in_order, verdict      the codes in their order
---     record_of              the Record of a verdict on a claim: code, tick, left and right value (record_with), and how
---                           many ticks were tried for it (ticks_tried); record_on: of the verdict that is due
+--     Verdict              the five verdicts
+--     left_at, right_at    the two values that the record of a refuted tick holds
+--     breaks, tried        whether a tick breaks the rule; how many ticks, from 0 on, are tried; first_break: the first
+--                          of them that does
+--     by_rate, less_holds      the tests of codes 3 and 4
+--     codes_in_order, verdict     the codes in their order
+--     record_of            the Record of a verdict on a claim: code, tick, left and right value (record_with), and how
+--                          many ticks were tried for it (ticks_tried); record_on: of the verdict that is due
 use Rattle.std.specs.Prelude.{ℕ, suc, ◌+◌, ◌-◌, Bool, true, false, not, ltb, eqb}
 use Rattle.std.proofs.Math.Option.{Option, none, some}
 use Rattle.minplus.specs.Search.{first_below}

@@ -17,7 +17,8 @@ use Rattle.std.proofs.Math.Path.{fun_ext}
 use Rattle.std.proofs.Math.Logic.Iff.{rfl}
 use Rattle.minplus.specs.Conv.{conv}
 use Rattle.minplus.specs.Gains.{Gains}
-use Rattle.minplus.specs.Folded.{Reached, least_from, carried, conv_early, conv_folded, first_half, from_gains, half_gains, reached_all, reached_half}
+use Rattle.minplus.specs.Folded.{Reached, least_from, carried, first_half, from_gains, half_gains}
+use Rattle.minplus.proofs.Folded.{conv_early, conv_folded, reached_all, reached_half}
 use Rattle.minplus.specs.Curve.{Curve, value, value_gains}
 
 -- document 02, A8: "Try only u up to n/2, rounded down."

@@ -18,7 +18,7 @@ use Rattle.minplus.specs.Verdict as C
 use Rattle.minplus.specs.Verdict.{record_of, record_on}
 use Rattle.minplus.specs.Recorded.{record_one}
 use Rattle.minplus.specs.Meaning.{Meaning, well_formed_proper}
-use Rattle.minplus.specs.Exact.{verdict_exact, accepted_exactly}
+use Rattle.minplus.proofs.Exact.{verdict_exact, accepted_exactly}
 use Rattle.verdict.specs.declared.Judged.{Judged}
 use Rattle.verdict.specs.Given.{judged_of, judgement, judgement_some}
 
