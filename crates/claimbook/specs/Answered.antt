@@ -62,7 +62,7 @@ verdict_lines f (suc k) = verdict_lines f k ++ verdict_line k (f k)
 
 -- ---- laws
 
-said-so : (o : Option Claim) → verdict_words (record_for o).code (record_for o).tick (record_for o).left (record_for o).right ≡ said (verdict_for o)
+pub said-so : (o : Option Claim) → verdict_words (record_for o).code (record_for o).tick (record_for o).left (record_for o).right ≡ said (verdict_for o)
 unfolding verdict_words said record_for verdict_for
 said-so none = refl
 said-so (some c) = go (verdict c) (ticks_tried c (verdict c))
@@ -76,7 +76,7 @@ said-so (some c) = go (verdict c) (ticks_tried c (verdict c))
 
 module _ (book : List ℕ) where
   -- where there are no more claims than a book may have, the lines have room
-  roomy : (n : ℕ) → claims_in (answer_of book blank) ≡ n → n ≤ max_claims → max_line * (claims_in (answer_of book blank) + 2) ≤ room
+  pub roomy : (n : ℕ) → claims_in (answer_of book blank) ≡ n → n ≤ max_claims → max_line * (claims_in (answer_of book blank) + 2) ≤ room
   roomy n e few = rw e (omega (arith, few))
 
   pub text_refused : (w : Refused book blank (answer_of book blank) (buffer_of book blank)) → text_for room book ≡ refused_line (number_of w.refusal) w.place
@@ -85,34 +85,3 @@ module _ (book : List ℕ) where
       let none = w.no_totals in
       report_refused room (answer_of book blank) (buffer_of book blank) (roomy 0 (λ i. none.0 i + none.1 i + none.2 i) (omega arith)) w.is_refusal
       ∙ ap₂ refused_line w.number_and_place.0 w.number_and_place.1
-
-  module _ (c : Contents) (e : read_book book ≡ sound c) where
-    back : (k : ℕ) → k < length c.claims → record_in (buffer_of book blank) k ≡ record_at book c k
-    unfolding buffer_on
-    back k lt =
-        let holds : Room blank c = omega (arith, (sound_book book c e).claims-fit, length-replicate {A = ℕ} (record_size * max_claims) 0) in
-        ap (λ (b : List ℕ). record_in b k) ((run_sound book blank c e holds).1 ∙ ap (buffer_on book blank) e) ∙ record_back book blank c e holds k lt
-
-    line : (k : ℕ) → k < length c.claims → claim_line (buffer_of book blank) k ≡ verdict_line k (verdict_at book c k)
-    unfolding claim_line verdict_line verdict_at
-    line k lt =
-        ap (λ (t : List ℕ). part "claim " k ++ t)
-        (ap (λ (r : Record). verdict_words r.code r.tick r.left r.right) (back k lt) ∙ said-so (claim_at book c k))
-
-    each_line : (n : ℕ) → n ≤ length c.claims → claim_lines (buffer_of book blank) n ≡ verdict_lines (verdict_at book c) n
-    unfolding claim_lines verdict_lines
-    each_line zero le = refl
-    each_line (suc n) le = ap₂ (λ (s t : List ℕ). s ++ t) (each_line n (omega (arith, le))) (line n (omega (arith, le)))
-
-  pub text_judged : (w : Judged book blank (answer_of book blank) (buffer_of book blank)) → text_for room book
-      ≡ verdict_lines (verdict_at book w.contents) (length w.contents.claims)
-      ++ total_line (accepted_in (answer_of book blank)) (refuted_in (answer_of book blank)) (unjudged_in (answer_of book blank))
-      ++ certified_line (length w.contents.claims) (accepted_in (answer_of book blank))
-  unfolding text_for
-  text_judged w =
-      let a = answer_of book blank in
-      let c = w.contents in
-      report_judged room a (buffer_of book blank) (roomy (length c.claims) w.add_up (sound_book book c w.book_sound).claims-fit) w.no_refusal.0
-      ∙ ap (λ (n : ℕ). claim_lines (buffer_of book blank) n ++ total_line (accepted_in a) (refuted_in a) (unjudged_in a) ++ certified_line n (accepted_in a)) w.add_up
-      ∙ ap (λ (t : List ℕ). t ++ total_line (accepted_in a) (refuted_in a) (unjudged_in a) ++ certified_line (length c.claims) (accepted_in a))
-      (each_line c w.book_sound (length c.claims) (omega arith))

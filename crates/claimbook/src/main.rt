@@ -1,14 +1,17 @@
 // A book on standard input, document 01's lines on standard output.
 #![tactic(auto)]
+
 ghost use Rattle.std.specs.Prelude.{◌≡◌, length};
-ghost use Rattle.io.specs.Counts.{IsPrefixLen};
 ghost use Rattle.numbers.specs.Put.{put};
+ghost use Rattle.report.specs.Written.{IsPrefixLen};
 ghost use Rattle.claimbook.specs.Answered.{text_for};
 
 use book::Book;
 use field::State;
+use input::read_full;
 use judge::{Totals, judge};
 use report::report;
+use std::io;
 
 // One byte more than a book may have: of a longer one no more is read, and it is refused for its length all the same.
 const BOOK: usize = Book::MAX_BYTES + 1;
@@ -28,10 +31,10 @@ fn answered(book: &[u8], text: &mut [u8]) -> usize
     report(answer, &verdicts, text)
 }
 
-fn main() {
+fn main(rt: HostRuntime) -> io::Result<()> {
     let mut book = [0u8; BOOK];
-    let length = io::read_full(0, &mut book);
+    let length = read_full(&mut rt.stdin(), &mut book)?;
     let mut text = [0u8; TEXT];
     let written = answered(&book[..length], &mut text);
-    io::write_all(1, &text[..written]);
+    rt.write_all(&text[..written])
 }

@@ -1,5 +1,6 @@
 // The parts of a line of text, for the programs.
 #![tactic(auto)]
+
 ghost use Rattle.std.specs.Prelude.{◌≤◌, min, ◌≡◌, length};
 ghost use Rattle.lines.specs.Parts.{Ends, place_from, with_digit, past_space, number_from};
 

@@ -54,6 +54,8 @@ tenth_less n high = div-lt_self (omega (arith, high)) (omega arith)
 
 -- any number of steps that is enough gives the same
 enough : (k j n : ℕ) → n < k → n < j → decimal_by k n ≡ decimal_by j n
+enough zero j n lt lt' = elim lt [ ]
+enough (suc k) zero n lt lt' = elim lt' [ ]
 enough (suc k) (suc j) n lt lt' = elim (dec_le 10 n) [
   | yes high ↦
       by-more k n high

@@ -1,14 +1,18 @@
 -- A byte written, and what is written from the first byte on.
 --
+--     IsPrefixLen      so many bytes are a front of the bytes
 --     wrote_byte       one byte
 --     wrote_first      the place after it is its length
 use Rattle.std.specs.Prelude.{ℕ, suc, ◌+◌, ◌≤◌, ◌<◌, ◌≡◌, refl, List, [], ◌∷◌, length, take, drop, set}
 use Rattle.std.proofs.Common.{sym, ◌∙◌, arith, zero-add, add-one, length-take-le}
 use Rattle.std.proofs.Math.Seq.{append_snoc}
 use Rattle.std.proofs.lemmas.List.{set_split}
-use Rattle.io.specs.Counts.{IsPrefixLen}
 use Rattle.numbers.specs.Put.{put}
 use Rattle.numbers.specs.Written.{Wrote, wrote_length}
+
+-- The second part follows from the first, and says what the proof that Rattle makes of `&s[..n]` asks.
+abbrev pub IsPrefixLen : ℕ → List ℕ → Type 0
+IsPrefixLen n s = (n ≤ length s) × (n ≡ length (take n s))
 
 pub wrote_byte : (s : List ℕ) (at b : ℕ) → at < length s → Wrote s at (b ∷ []) (set s at b) (at + 1)
 unfolding put

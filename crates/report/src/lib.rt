@@ -1,10 +1,11 @@
 // Document 01's lines for an answer of the judge and its verdict buffer.
 #![tactic(auto)]
+
 ghost use Rattle.std.specs.Prelude.{◌+◌, ◌*◌, ◌^◌, ◌≤◌, ◌<◌, ◌≡◌, length};
-ghost use Rattle.io.specs.Counts.{IsPrefixLen};
 ghost use Rattle.numbers.specs.Put.{put};
 ghost use Rattle.report.specs.Lines.{max_line, max_words, TotalsFit, refuted_at, words_in, claim_line, claim_lines, total_line, certified_line, refused_line, report_in};
 ghost use Rattle.numbers.specs.Written.{Wrote};
+ghost use Rattle.report.specs.Written.{IsPrefixLen};
 
 use judge::Totals;
 use numbers::{number1, number4, number8};

@@ -1,11 +1,15 @@
 // Both directions of the round trip on the books of data/, which are those of books/. Standard input names them, a line
 // each. The curves and claims of a sound book are written again, and what was written is read again.
 #![tactic(auto)]
+
 use book::whole::read;
 use book::{Book, Outcome};
 use content::Refusal;
 use curve::Curve;
 use field::State;
+use input::read_full;
+use std::rt::Files;
+use std::{fs, io};
 
 mod comparing;
 mod fields;
@@ -24,43 +28,40 @@ const MOST_BYTES: usize = 4
     + State::MAX_CLAIMS * 10
     + 3;
 
-fn print(words: &[u8]) {
-    io::write_all(1, words);
+// What standard input has room for.
+const INPUT: usize = 65_536;
+
+fn part(rt: &impl Print, words: &[u8], x: u64) -> io::Result<()> {
+    rt.write_all(words)?;
+    print!(rt; "{x}")
 }
 
-fn part(words: &[u8], x: u64) {
-    print(words);
-    io::print_decimal(1, x);
-}
-
-fn refused(refusal: Refusal) {
-    part(b" refused ", refusal.number() as u64);
+fn refused(rt: &impl Print, refusal: Refusal) -> io::Result<()> {
+    part(rt, b" refused ", refusal.number() as u64)
 }
 
 // Where it differs, or that it is the same; `none` stands for no place.
-fn differs(words: &[u8], place: usize, none: usize) {
+fn differs(rt: &impl Print, words: &[u8], place: usize, none: usize) -> io::Result<()> {
     if place == none {
-        print(b" same");
-        return;
+        return rt.write_all(b" same");
     }
-    part(words, place as u64);
+    part(rt, words, place as u64)
 }
 
-fn read_back(bytes: &[u8], book: Book, written: &[u8]) {
-    print(b" read back");
+fn read_back(rt: &impl Print, bytes: &[u8], book: Book, written: &[u8]) -> io::Result<()> {
+    rt.write_all(b" read back")?;
     let reading = read(written);
     let outcome = reading.outcome;
     let again = reading.book;
     if let Outcome::Refused(refusal, place) = outcome {
-        refused(refusal);
-        part(b" at ", place as u64);
-        return;
+        refused(rt, refusal)?;
+        return part(rt, b" at ", place as u64);
     }
-    part(b" ", again.curves as u64);
-    part(b" curves ", again.claims as u64);
-    print(b" claims");
+    part(rt, b" ", again.curves as u64)?;
+    part(rt, b" curves ", again.claims as u64)?;
+    rt.write_all(b" claims")?;
     let other = other_field(bytes, book, written, again);
-    differs(b" differs at field ", other, MOST_FIELDS);
+    differs(rt, b" differs at field ", other, MOST_FIELDS)
 }
 
 // The first bytes of the buffer, never more than it has.
@@ -72,74 +73,78 @@ fn first(out: &[u8], length: usize) -> &[u8] {
     }
 }
 
-fn compare(bytes: &[u8], book: Book, out: &[u8], length: usize) {
-    part(b" written ", length as u64);
+fn compare(rt: &impl Print, bytes: &[u8], book: Book, out: &[u8], length: usize) -> io::Result<()> {
+    part(rt, b" written ", length as u64)?;
     if length != bytes.len() {
-        part(b" of ", bytes.len() as u64);
+        part(rt, b" of ", bytes.len() as u64)?;
     }
-    differs(b" differs at ", other_byte(bytes, out), out.len());
-    read_back(bytes, book, first(out, length));
+    differs(rt, b" differs at ", other_byte(bytes, out), out.len())?;
+    read_back(rt, bytes, book, first(out, length))
 }
 
-fn write_again(bytes: &[u8], book: Book, out: &mut [u8]) {
+fn write_again(rt: &impl Print, bytes: &[u8], book: Book, out: &mut [u8]) -> io::Result<()> {
     fill(bytes, out);
     match write(bytes, book, out) {
-        Writing::Closed(length) => compare(bytes, book, out, length),
+        Writing::Closed(length) => compare(rt, bytes, book, out, length),
         Writing::Refused(call, refusal) => {
-            part(b" call ", call as u64);
-            refused(refusal);
+            part(rt, b" call ", call as u64)?;
+            refused(rt, refusal)
         }
     }
 }
 
-fn answer(bytes: &[u8]) {
+fn answer(rt: &impl Print, bytes: &[u8]) -> io::Result<()> {
     let reading = read(bytes);
     let outcome = reading.outcome;
     let book = reading.book;
     if let Outcome::Refused(refusal, place) = outcome {
-        refused(refusal);
-        part(b" at ", place as u64);
-        return;
+        refused(rt, refusal)?;
+        return part(rt, b" at ", place as u64);
     }
     let mut out = [0u8; MOST_BYTES];
-    write_again(bytes, book, &mut out);
+    write_again(rt, bytes, book, &mut out)
 }
 
-fn ask(name: &[u8]) {
-    let file = os::open_read(name);
-    if file < 0 {
-        print(b" missing");
-        return;
-    }
+// None where there is no such file. What is no text names none.
+fn opened<R: Files>(rt: &R, name: &[u8]) -> Option<R::File> {
+    let name = str::from_utf8(name).ok()?;
+    fs::open(rt, name).ok()
+}
+
+fn ask(rt: &(impl Files + Print), name: &[u8]) -> io::Result<()> {
+    let Some(mut file) = opened(rt, name) else {
+        return rt.write_all(b" missing");
+    };
     let mut bytes = [0u8; ROOM];
-    let n = io::read_full(file, &mut bytes);
-    libc::close(file);
-    answer(&bytes[..n]);
+    let n = read_full(&mut file, &mut bytes)?;
+    drop(file);
+    answer(rt, &bytes[..n])
 }
 
-fn case(name: &[u8]) {
+fn case(rt: &(impl Files + Print), name: &[u8]) -> io::Result<()> {
     if name.len() == 0 {
-        return;
+        return Ok(());
     }
     if name[0] == b'#' {
-        return;
+        return Ok(());
     }
-    print(name);
-    ask(name);
-    print(b"\n");
+    rt.write_all(name)?;
+    ask(rt, name)?;
+    rt.write_all(b"\n")
 }
 
-fn cases(input: &[u8]) {
+fn cases(rt: &(impl Files + Print), input: &[u8]) -> io::Result<()> {
     let mut at: usize = 0;
     while at < input.len() {
         let end = lines::find(input, at, b'\n');
-        case(&input[at..end]);
+        case(rt, &input[at..end])?;
         at = end + 1;
     }
+    Ok(())
 }
 
-fn main() {
-    let mut input = io::large_buffer();
-    let n = io::read_full(0, &mut input);
-    cases(&input[..n]);
+fn main(rt: HostRuntime) -> io::Result<()> {
+    let mut input = [0u8; INPUT];
+    let n = read_full(&mut rt.stdin(), &mut input)?;
+    cases(&rt, &input[..n])
 }

@@ -1,0 +1,2 @@
+-- What the program writes for a sound book.
+pub mod Texts
