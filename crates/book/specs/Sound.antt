@@ -19,7 +19,7 @@ use Rattle.minplus.specs.Search.{both_true}
 use Rattle.numbers.specs.Lists.{forall_more, length_zero}
 use Rattle.content.specs.declared.Refusal.{Refusal}
 use Rattle.content.specs.declared.Refusal.TheVariants.{BookTooLong}
-use Rattle.content.specs.declared.Checked.TheVariants.{Sound, Refused}
+use Rattle.content.specs.declared.Checked.TheVariants.{Sound}
 use Rattle.field.specs.declared.Tag.TheVariants as tag
 use Rattle.field.specs.declared.State.{State}
 use Rattle.field.specs.declared.Field.{Field}

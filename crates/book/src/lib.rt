@@ -1,5 +1,6 @@
 // A book, read: any bytes are a sound book or a refusal with its place.
 #![tactic(auto)]
+
 use content::Refusal;
 use curve::Units;
 use field::State;

@@ -19,7 +19,8 @@ use Rattle.curve.specs.Filled.{list_of, length-list_of, list_of_at}
 use Rattle.numbers.specs.Lists.{flat_more}
 use Rattle.numbers.specs.Numbers.{number_at}
 use Rattle.numbers.specs.Put.{bytes_of, length-bytes}
-use Rattle.numbers.specs.Back.{Bytes, bytes-append, bytes_flat, bytes_of_lem, length_then, number_on, number_front, bytes_again, bytes_then}
+use Rattle.numbers.specs.Back.{Bytes, bytes-append, bytes_flat, length_then, number_on}
+use Rattle.numbers.proofs.HighFirst.{bytes_of_lem, number_front, bytes_again, bytes_then}
 use Rattle.content.specs.declared.Refusal.TheVariants.{CurveLength, CurvePeriod, WrongClaim}
 use Rattle.content.specs.declared.Checked.TheVariants.{Sound}
 use Rattle.content.specs.Layout.{rank_in, period_in, increment_in, count_in, curve_head, value_in, curve_in, values_bytes, curve_bytes, Statement, id_in, third_width, claim_in, claim_length, claim_bytes, third_small}

@@ -19,11 +19,9 @@ use Rattle.content.specs.declared.Refusal.{Refusal}
 use Rattle.content.specs.declared.Refusal.TheVariants.{WrongClaim, NoSuchCurve, TooLarge}
 use Rattle.content.specs.declared.Checked.{Checked}
 use Rattle.content.specs.declared.Checked.TheVariants.{Sound, Refused}
-use Rattle.content.specs.declared.Stated.{Stated}
-use Rattle.content.specs.declared.ClaimField.{ClaimField}
 use Rattle.content.specs.declared.ClaimField.TheVariants as claim-field
 use Rattle.content.specs.Layout.{Statement}
-use Rattle.content.specs.Refusals.{on, none_named, far_x, kind_fault, statement_fault, claimed_of, stated_of, stated, statement_field}
+use Rattle.content.specs.Refusals.{on, none_named, kind_fault, statement_fault, claimed_of, stated, statement_field}
 
 -- of so many curves, the ids left and right and a third number
 unfoldable pub named_fault : Named → ℕ → ℕ → ℕ → ℕ → Checked

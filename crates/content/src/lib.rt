@@ -1,6 +1,7 @@
 // What stands in a field of a book: a curve or a claim, or why it is refused. The reader and the writer go by the same
 // rules.
 #![tactic(auto)]
+
 ghost use Rattle.std.specs.Prelude.{◌≡◌};
 ghost use Rattle.content.specs.Refusals.{number_of};
 

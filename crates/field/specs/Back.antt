@@ -25,7 +25,8 @@ use Rattle.minplus.specs.Search.{numbered, numbered-so}
 use Rattle.numbers.specs.Lists.{length_zero}
 use Rattle.numbers.specs.Numbers.{number_at}
 use Rattle.numbers.specs.Put.{bytes_of, length-bytes}
-use Rattle.numbers.specs.Back.{Bytes, bytes_take, bytes_drop, bytes-append, bytes_of_lem, length_then, number_on, number_front, bytes_again, bytes_then}
+use Rattle.numbers.specs.Back.{Bytes, bytes_take, bytes_drop, bytes-append, length_then, number_on}
+use Rattle.numbers.proofs.HighFirst.{bytes_of_lem, number_front, bytes_again, bytes_then}
 use Rattle.content.specs.declared.Refusal.TheVariants.{WrongVersion, WrongEnd}
 use Rattle.content.specs.declared.Checked.{Checked}
 use Rattle.content.specs.declared.Checked.TheVariants.{Sound}

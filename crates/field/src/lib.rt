@@ -1,5 +1,6 @@
 // One field of a book: a step over it, or why it is refused.
 #![tactic(auto)]
+
 ghost use Rattle.std.specs.Prelude.{◌≡◌};
 ghost use Rattle.field.specs.Fields.{tag_number};
 

@@ -31,7 +31,6 @@ use Rattle.curve.specs.Held.{held_as, rates_of}
 use Rattle.curve.specs.Claimed.{claim_over}
 use Rattle.horizon.specs.declared.crossing.Signed.{Signed}
 use Rattle.horizon.specs.declared.Measured.{Measured}
-use Rattle.horizon.specs.declared.Measured.TheVariants as Measured
 use Rattle.horizon.specs.Capped.{capped, capped_twice, horizon_from, max-capped, plus_capped}
 
 abbrev pub choice : Bool → ℕ → ℕ → ℕ

@@ -1,5 +1,6 @@
 // How far a claim has to be looked at.
 #![tactic(auto)]
+
 ghost use Rattle.std.specs.Prelude.{◌≡◌, ◌+◌, ◌≤◌, max};
 ghost use Rattle.minplus.specs.Claim.{equals};
 ghost use Rattle.minplus.specs.Divisor.{lcm};

@@ -13,7 +13,8 @@ use Rattle.minplus.specs.Meaning.{Meaning, well_formed_proper}
 use Rattle.minplus.proofs.Exact.{verdict_exact}
 use Rattle.numbers.specs.Numbers.{number_at}
 use Rattle.numbers.specs.Put.{put, bytes_of, length-bytes}
-use Rattle.numbers.specs.Back.{number_on, number_front, number_back}
+use Rattle.numbers.specs.Back.{number_on}
+use Rattle.numbers.proofs.HighFirst.{number_front, number_back}
 use Rattle.judge.specs.Answer.{record_size, record_in}
 use Rattle.judge.specs.Records.{record_bytes, records_to, length_records, record_parts}
 

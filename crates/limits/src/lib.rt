@@ -1,5 +1,6 @@
 // Whether a curve and a claim keep document 01's limits.
 #![tactic(auto)]
+
 ghost use Rattle.std.specs.Prelude.{◌≤◌, ◌≡◌};
 ghost use Rattle.minplus.specs.Curve.{WellFormed};
 ghost use Rattle.minplus.specs.Claim.{well_formed_claim, max_x};

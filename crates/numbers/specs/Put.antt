@@ -3,21 +3,19 @@
 --     put s at t          s with t over it from place at on
 --     put_whole s at t     the same where all of t has room (put_fits), else s as it was (put_short)
 --     bytes_of w n         the w bytes of a number, high byte first; of a larger number its last w
---     bytes_back          read again they are the number; length-bytes: they are w; put-bytes: written from the last
---                         one on
+--                         (length-bytes: they are w; read again they are the number, and they may be written from the
+--                         last one on: proofs/Put)
 --     put-nothing, put_last, put-put     nothing, one byte more, one after the other
 --     length-put, drop-put               as many bytes as before, and those after it as they were
-use Prim.Native.Nat.{ℕ, zero, suc, ◌+◌, ◌-◌, ◌^◌, ◌/◌, ◌%◌, ◌≤◌, ◌<◌}
+use Prim.Native.Nat.{ℕ, zero, suc, ◌+◌, ◌/◌, ◌%◌, ◌≤◌, ◌<◌}
 use Rattle.std.specs.Prelude.{◌≡◌, refl, true, false, set, leb}
 use Rattle.std.proofs.Math.Path.{sym, ap}
-use Rattle.std.proofs.Common.{◌∙◌, arith, div-add-mod', div-lt_iff_lt-mul, add-zero, add-one, take-append-drop, length-take-le, le-leb}
+use Rattle.std.proofs.Common.{◌∙◌, arith, add-zero, add-one, take-append-drop, length-take-le, le-leb}
 use mathlib.Core.List.{List, [], ◌∷◌, ◌++◌, append-nil, append_assoc}
-use Rattle.std.proofs.Math.Nat.{pow-succ'}
 use Rattle.std.proofs.Math.ListN.{length, take, drop, length-append, length-drop}
 use Rattle.std.proofs.Math.Seq.{append_snoc, take_at, drop_at, drop-drop, take-set-le}
 use Rattle.std.proofs.lemmas.List.{set_split}
 use Rattle.std.proofs.lemmas.Bool.{lt-leb}
-use Rattle.numbers.specs.Numbers.{number_after, after-append}
 
 unfoldable pub put : List ℕ → ℕ → List ℕ → List ℕ
 put s at t = (take at s ++ t) ++ drop (at + length t) s
@@ -60,7 +58,7 @@ module _ (s : List ℕ) (at : ℕ) (t : List ℕ) where
   drop-put fits = drop_at (take at s ++ t) (drop (at + length t) s) (at + length t) (head (omega (arith, fits)))
 
   -- the last byte may be written first
-  put_last : (b : ℕ) → at + length t < length s → put s at (t ++ (b ∷ [])) ≡ put (set s (at + length t) b) at t
+  pub put_last : (b : ℕ) → at + length t < length s → put s at (t ++ (b ∷ [])) ≡ put (set s (at + length t) b) at t
   unfolding put
   put_last b fits =
       let k : ℕ = at + length t in
@@ -87,20 +85,3 @@ pub length-bytes : (w n : ℕ) → length (bytes_of w n) ≡ w
 unfolding bytes_of
 length-bytes zero n = refl
 length-bytes (suc w) n = simp (length-append, length-bytes w (n / 256), add-one w)
-
--- the last byte first, for a loop that goes down
-pub put-bytes : (s : List ℕ) (at w n : ℕ) → 0 < w → at + w ≤ length s
-    → put (set s (at + (w - 1)) (n % 256)) at (bytes_of (w - 1) (n / 256)) ≡ put s at (bytes_of w n)
-unfolding bytes_of
-put-bytes s at zero n positive fits = absurd (omega (arith, positive))
-put-bytes s at (suc w) n positive fits =
-    let less : suc w - 1 ≡ w = omega arith in
-    let size : length (bytes_of w (n / 256)) ≡ w = length-bytes w (n / 256) in
-    rw less (sym (rw size at (put_last s at (bytes_of w (n / 256)) (n % 256) (omega (arith, size, fits)))))
-
-pub bytes_back : (w n : ℕ) → n < 256 ^ w → number_after 0 (bytes_of w n) ≡ n
-unfolding bytes_of number_after
-bytes_back zero n lt = omega (arith, lt)
-bytes_back (suc w) n lt =
-    after-append 0 (bytes_of w (n / 256)) (n % 256 ∷ [])
-    ∙ rw (bytes_back w (n / 256) ((div-lt_iff_lt-mul (omega arith)).1 (omega (arith, lt, pow-succ' 256 w)))) (div-add-mod' n 256)

@@ -1,5 +1,6 @@
 // Numbers in bytes, high byte first. Where the bytes end before the number does, it is 0.
 #![tactic(auto)]
+
 ghost use Rattle.std.specs.Prelude.{◌≡◌, ◌<◌};
 ghost use Rattle.numbers.specs.Numbers.{number_at};
 ghost use Rattle.numbers.specs.Put.{put_whole, bytes_of};

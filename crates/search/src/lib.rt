@@ -1,6 +1,7 @@
 // The ticks of a claim: the first that breaks its rule, by walks over the curves. Kind 3 is searched in a crate of its
 // own.
 #![tactic(auto)]
+
 ghost use Rattle.std.specs.Prelude.{◌≡◌, ◌≤◌};
 ghost use Rattle.minplus.specs.Claim.{at_most, exactly, max_x};
 ghost use Rattle.minplus.specs.Horizon.{max_horizon};

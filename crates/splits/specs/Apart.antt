@@ -3,18 +3,18 @@
 --     work_of f g s            f's values up to the settled tick at the front of s, and g's listed ones in their part
 --     apart_foldable          these can be searched,
 --     apart_first             and what is found is the first tick at which h differs from the convolution of f and g
-use Rattle.std.specs.Prelude.{ℕ, ◌+◌, ◌-◌, ◌*◌, ◌≤◌, ◌<◌, min, ◌≡◌, refl, List, Bool, true, length, get_or, take, drop, eqb}
+use Rattle.std.specs.Prelude.{ℕ, ◌+◌, ◌-◌, ◌≤◌, ◌<◌, min, ◌≡◌, refl, List, Bool, true, length, get_or, take, drop, eqb}
 use Rattle.std.proofs.Math.Path.{sym, ap}
 use Rattle.std.proofs.Common.{ap₂, ◌∙◌, get_or-drop}
 use Rattle.std.proofs.Math.Bool.{not}
 use native.Mathlib.Omega.{arith}
 use Rattle.minplus.specs.Search.{best_same}
 use Rattle.minplus.specs.Conv.{conv}
-use Rattle.minplus.specs.Curve.{Curve, listed_at, value, value_at_most, value_gains}
+use Rattle.minplus.specs.Curve.{Curve, value, value_at_most, value_gains}
 use Rattle.minplus.proofs.Curve.{value_only}
 use Rattle.minplus.specs.Claim.{convolution, due, equals}
 use Rattle.minplus.specs.Verdict.{breaks, left_at, right_at}
-use Rattle.curve.specs.Steps.{Steps, Lent, curve_from, step_count, stepped}
+use Rattle.curve.specs.Steps.{Steps, curve_from, step_count, stepped}
 use Rattle.curve.specs.Table.{table_at}
 use Rattle.search.specs.Found.{found_same}
 use Rattle.search.specs.Break.{Searched, first_of_tried}

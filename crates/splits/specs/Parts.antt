@@ -7,7 +7,7 @@
 --     Kept N L C t e          what stands in the numbers at a tick: values of N, and from the tick t on of L and, for
 --                             one round of e ticks, of C: kept_none, kept_near, kept_last, kept_skip, kept_early,
 --                             kept_carried: as it begins, and after each store or where there is none
-use Prim.Native.Nat.{ℕ, suc, ◌+◌, ◌-◌, ◌*◌, ◌≤◌, ◌<◌, min}
+use Prim.Native.Nat.{ℕ, suc, ◌+◌, ◌*◌, ◌≤◌, ◌<◌, min}
 use Rattle.std.specs.Prelude.{◌≡◌, refl, Bool, true, false, ◌⊎◌, set, take}
 use Rattle.std.proofs.Common.{sym, ◌∙◌, inl, inr, ⊎_elim, mul-le-mul_right, length-set, get_or-set_same, get_or-set_other, length-take-le, below_more}
 use Rattle.std.proofs.Math.Path.{ap}

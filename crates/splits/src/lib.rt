@@ -1,5 +1,6 @@
 // Kind 3, the convolution: ticks and splits, nested.
 #![tactic(auto)]
+
 ghost use Rattle.std.specs.Prelude.{◌≡◌, true, ◌+◌, ◌≤◌, length, set};
 ghost use Rattle.minplus.specs.Claim.{convolution, equals};
 ghost use Rattle.curve.specs.Steps.{Lent, curve_from, stepped};

@@ -29,7 +29,6 @@ use Rattle.verdict.specs.declared.Verdict.{Verdict}
 use Rattle.verdict.specs.declared.Verdict.TheVariants.{Accepted, RefutedAt, RefutedByRate, NotLeast, NotJudged}
 use Rattle.verdict.specs.declared.Decided.{Decided}
 use Rattle.verdict.specs.declared.Judged.{Judged}
-use Rattle.verdict.specs.declared.Judged.TheVariants as Judged
 use Rattle.verdict.specs.declared.Record.{Record}
 use Rattle.search.specs.declared.Compared.{Compared}
 use Rattle.search.specs.declared.Found.{Found}

@@ -1,5 +1,6 @@
 // One claim over its curves: the verdict.
 #![tactic(auto)]
+
 ghost use Rattle.std.specs.Prelude.{◌≡◌, true, ◌≤◌, length};
 ghost use Rattle.minplus.specs.Verdict.{not_judged, record_on, record_with};
 ghost use Rattle.curve.specs.Steps.{curve_from};

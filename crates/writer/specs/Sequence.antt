@@ -229,8 +229,8 @@ laid-step {s} (laid_out {closed} {b} {text} stage room) call = go (call_fault (s
 
 laid_calls : {s : List ℕ} {d : Desk} → Laid s d → (calls : List Call) → Laid s (after_calls d calls)
 unfolding after_calls
-laid_calls l [] = l
-laid_calls l (call ∷ calls) = laid_calls (laid-step l call) calls
+laid_calls {s = s} {d = d} l [] = l
+laid_calls {s = s} {d = d} l (call ∷ calls) = laid_calls {s = s} {d = step d call} (laid-step l call) calls
 
 -- a text that is the beginning of a book within the limits
 record Begins (text : List ℕ) : Type 0 where

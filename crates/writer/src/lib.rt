@@ -1,5 +1,6 @@
 // A book, written field by field into a lent buffer.
 #![tactic(auto)]
+
 ghost use Rattle.std.specs.Prelude.{◌≡◌};
 ghost use Rattle.writer.specs.Writing.{fresh};
 

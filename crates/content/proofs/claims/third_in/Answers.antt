@@ -1,0 +1,11 @@
+use borrow.Author.Tests.{lt-ltb, le-ltb}
+use Rattle.content.specs.Layout.{third_width}
+use Rattle.content.proofs.claims.third_in.Goals as goal
+
+pub returns-then-kind-lt4 : goal.returns-then-kind-lt4
+unfolding third_width
+returns-then-kind-lt4 c = rw (lt-ltb c.args.kind 4 c.if-kind-lt4.true, third_width) c.number1.ensures
+
+pub returns : goal.returns
+unfolding third_width
+returns c = rw (le-ltb c.args.kind 4 c.if-kind-lt4.false, third_width) c.number4.ensures

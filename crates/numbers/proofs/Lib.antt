@@ -1,0 +1,2 @@
+-- What rests on the order of a number's bytes.
+pub mod HighFirst
