@@ -1,5 +1,6 @@
 //! What a check of a crate says, function by function.
 
+use crate::source;
 use std::collections::BTreeMap;
 
 pub enum Status {
@@ -21,7 +22,7 @@ pub struct Said {
     /// The check got as far as the prover and had a verdict.
     pub judged: bool,
     pub functions: BTreeMap<String, Function>,
-    /// A function with proof files, and the goal or the fact that is refused in them.
+    /// A function, and a goal or a fact that is refused in its proof files, or a goal that is not proved without one.
     pub refused: Vec<(String, String)>,
     /// The first error of the compiler, or else the last line, for a change that does not get so far.
     pub unjudged: String,
@@ -44,6 +45,15 @@ fn shows_nothing(message: &str) -> bool {
     ["was not admitted", "not checked", "can be named", "has no field", "has no `", "is not in scope"].iter().any(|unfit| message.contains(unfit))
 }
 
+/// The function and the goal of `note: src/values.rt:17:16: it is not proved that .. (`bounds-rises-i`); ..`.
+fn unproved(line: &str, functions: &[source::Function]) -> Option<(String, String)> {
+    let (place, message) = line.strip_prefix("note: ")?.split_once(": it is not proved that ")?;
+    let mut place = place.split(':');
+    let (file, number) = (place.next()?, place.next()?.parse().ok()?);
+    let goal = message.split(')').next()?.rsplit('`').nth(1)?;
+    Some((source::at(functions, file, number)?.path.clone(), goal.to_string()))
+}
+
 fn function_in(name: &str, text: &str) -> Function {
     let (own, calls) = text.split_once("it calls ").unwrap_or((text, ""));
     let calls = quoted(calls).into_iter().filter_map(|path| path.strip_prefix(&format!("{name}::"))).map(str::to_string).collect();
@@ -59,7 +69,8 @@ fn function_in(name: &str, text: &str) -> Function {
     Function { status, calls }
 }
 
-pub fn read(name: &str, text: &str) -> Said {
+/// `functions` are those of the changed files.
+pub fn read(name: &str, text: &str, functions: &[source::Function]) -> Said {
     let mut said = Said { judged: false, functions: BTreeMap::new(), refused: Vec::new(), unjudged: String::new() };
     let own = format!("fn {name}::");
     for line in text.lines() {
@@ -73,6 +84,8 @@ pub fn read(name: &str, text: &str) -> Said {
             if let (Some(function), Some(goal), false) = (function, goal, shows_nothing(message)) {
                 said.refused.push((function, goal.to_string()));
             }
+        } else if let Some(found) = unproved(line, functions) {
+            said.refused.push(found);
         } else if let Some((path, status)) = line.strip_prefix(&own).and_then(|rest| rest.split_once(": ")) {
             said.functions.insert(path.to_string(), function_in(name, status));
         } else if line.starts_with("logic=") {

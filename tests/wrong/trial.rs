@@ -27,9 +27,10 @@ struct Waiting<'a> {
     apart: BTreeSet<String>,
 }
 
-/// What rt says of a crate with these changes in it. The files are as they were afterwards.
-fn said_with(copy: &Copy, name: &str, functions: &[Function], batch: &[&Wrong], words: &[&str]) -> Result<String, String> {
+/// What `rt WORDS` says of a crate with these changes in it. The files are as they were afterwards.
+fn said_with(copy: &Copy, name: &str, functions: &[Function], batch: &[&Wrong], words: &[&str]) -> Result<Said, String> {
     let failed = |e: std::io::Error| format!("it can't be tried: {e}");
+    let folder = copy.top.join("crates").join(name);
     let mut edits: BTreeMap<&PathBuf, Vec<_>> = BTreeMap::new();
     let mut before = BTreeMap::new();
     for wrong in batch {
@@ -41,23 +42,24 @@ fn said_with(copy: &Copy, name: &str, functions: &[Function], batch: &[&Wrong], 
     for (file, made) in edits {
         fs::write(file, source::changed(&before[file], made)).map_err(failed)?;
     }
-    let ran = Command::new("rt").args(words).current_dir(copy.top.join("crates").join(name)).output();
+    let changed = source::functions(&folder);
+    let ran = Command::new("rt").args(words).current_dir(&folder).output();
     for (file, text) in before {
         fs::write(file, text).map_err(failed)?;
     }
     let ran = ran.map_err(failed)?;
-    Ok([ran.stdout, ran.stderr].map(|bytes| String::from_utf8_lossy(&bytes).into_owned()).concat())
+    let text = [ran.stdout, ran.stderr].map(|bytes| String::from_utf8_lossy(&bytes).into_owned()).concat();
+    Ok(said::read(name, &text, &changed?))
 }
 
 fn check(copy: &Copy, name: &str, functions: &[Function], batch: &[&Wrong]) -> Result<Said, String> {
-    let jobs = copy.jobs.to_string();
-    Ok(said::read(name, &said_with(copy, name, functions, batch, &["check", "--jobs", &jobs])?))
+    said_with(copy, name, functions, batch, &["check", "--jobs", &copy.jobs.to_string()])
 }
 
 /// Why the crate does not compile with this one, if it does not. Nothing is proved.
 fn not_compiled(copy: &Copy, name: &str, functions: &[Function], wrong: &Wrong) -> Result<Option<String>, String> {
-    let text = said_with(copy, name, functions, &[wrong], &["check", "--only", ""])?;
-    Ok(text.contains(": error[").then(|| said::read(name, &text).unjudged))
+    let said = said_with(copy, name, functions, &[wrong], &["check", "--only", ""])?;
+    Ok(said.unjudged.starts_with("error[").then_some(said.unjudged))
 }
 
 /// Refused at its own goal, in its own proof; or what came instead.
