@@ -1,6 +1,7 @@
 // The run over a book: a verdict on each claim, written as records into lent bytes, and the refusal or the totals as
 // one number.
 #![tactic(auto)]
+
 ghost use Rattle.std.specs.Prelude.{◌≡◌};
 ghost use Rattle.judge.specs.Run.{answer_of, buffer_of};
 
