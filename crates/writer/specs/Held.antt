@@ -6,8 +6,8 @@
 --     version_size, curve_size, claim_size, end_size     how many bytes it has
 --     Filling              the values of a curve, as far as they are written: filling_none, filling_more, filling_all;
 --                          filling_length: as many bytes as before
---     fault_is, moved_by_lem   the tests and the new state, by the field's size; refused_return, taken_return: what is
---                          returned then
+--     fault_is, moved_by_lem   the tests and the new state, by the field's size; taken_return: what is returned then
+--                          (refused_return: proofs/Tests)
 use Prim.Native.Nat.{ℕ, ◌+◌, ◌*◌, ◌≤◌, ◌<◌}
 use Rattle.std.specs.Prelude.{◌≡◌, Bool, true, false, take, get_or, leb}
 use Rattle.std.proofs.Math.Path.{refl, sym, ap}
@@ -18,9 +18,8 @@ use Rattle.minplus.specs.Curve.{Curve}
 use Rattle.numbers.specs.Lists.{flat_more}
 use Rattle.numbers.specs.Put.{put, put_whole, bytes_of, length-put, length-bytes}
 use Rattle.numbers.specs.Written.{Wrote, wrote_nothing, wrote_number, wrote_length, wrote_on}
-use Rattle.content.specs.declared.Refusal.{Refusal}
 use Rattle.content.specs.declared.Checked.{Checked}
-use Rattle.content.specs.declared.Checked.TheVariants.{Sound, Refused}
+use Rattle.content.specs.declared.Checked.TheVariants.{Sound}
 use Rattle.content.specs.Layout.{values_bytes, curve_bytes, Statement, third_width, claim_bytes}
 use Rattle.content.specs.Back.{length_values, length_curve, length-claim}
 use Rattle.field.specs.declared.Tag.{Tag}
@@ -30,7 +29,7 @@ use Rattle.field.specs.Steps.{after}
 use Rattle.field.specs.Back.{length_field}
 use Rattle.writer.specs.declared.Writer.{Writer}
 use Rattle.writer.specs.declared.Called.{Called}
-use Rattle.writer.specs.Writing.{Call, begin, add_curve, add_claim, close, call_tag, call_content, call_field, first, order_fault, argument_fault, room_fault, call_fault, version_of, closes, moved_by, called, written, call_refused, call_taken}
+use Rattle.writer.specs.Writing.{Call, begin, add_curve, add_claim, close, call_tag, call_content, call_field, first, order_fault, argument_fault, room_fault, call_fault, version_of, closes, moved_by, called, written, call_taken}
 
 abbrev pub head_bytes : Tag → ℕ → List ℕ
 head_bytes t n = bytes_of 1 (tag_number t) ++ bytes_of 2 n
@@ -188,11 +187,6 @@ module _ (call : Call) (w : Writer) where
   moved_by_lem size long = rw long
 
   module _ (s : List ℕ) {r : Checked} (e : r ≡ call_fault w (length s) call) where
-    pub refused_return : (x : Refusal) → r ≡ Refused x → (◌≡◌ {A = Called} (record { checked = r; writer = w }) (called call w s)) × (s ≡ written call w s)
-    refused_return x is =
-        let told = call_refused call w s x (sym e ∙ is) in
-        (ap (λ (y : Checked). record { checked = y; writer = w }) is ∙ sym told.0, sym told.1)
-
     pub taken_return : {w' : Writer} {s' : List ℕ} → r ≡ Sound → w' ≡ moved_by call w → s' ≡ put s w.state.place (call_field call)
         → (◌≡◌ {A = Called} (record { checked = r; writer = w' }) (called call w s)) × (s' ≡ written call w s)
     taken_return is to now-so =

@@ -10,20 +10,17 @@
 --     moved_by          where a writer stands after a call that is taken (version_of, closes)
 --     called           the answer and the writer after it
 --     written          every byte of the buffer after it
---     Passes           a call is taken exactly when (passes)
---     call_refused, call_taken     what a call leaves that is refused, and one that is taken
-use Rattle.std.specs.Prelude.{ℕ, ◌+◌, ◌≤◌, ◌≡◌, refl, Bool, true, false, not, List, [], ◌↔◌, length, ltb}
+--     Passes           a call is taken exactly when (proofs/Tests: passes)
+--     call_taken       what a call leaves that is taken (of one that is refused, proofs/Tests: call_refused)
+use Rattle.std.specs.Prelude.{ℕ, ◌+◌, ◌≤◌, ◌≡◌, Bool, true, false, not, List, [], length, ltb}
 use Rattle.std.proofs.Math.Path.{ap}
-use Rattle.std.proofs.Common.{ltb-false, le-ltb}
-use Rattle.std.proofs.lemmas.Bool.{not-false}
 use Rattle.minplus.specs.Curve.{Curve}
 use Rattle.numbers.specs.Put.{put, bytes_of}
-use Rattle.content.specs.declared.Refusal.{Refusal}
 use Rattle.content.specs.declared.Refusal.TheVariants.{OutOfOrder, TooMany, WrongVersion, NoRoom}
 use Rattle.content.specs.declared.Checked.{Checked}
 use Rattle.content.specs.declared.Checked.TheVariants.{Sound, Refused}
 use Rattle.content.specs.Layout.{curve_bytes, Statement, claim_bytes}
-use Rattle.content.specs.Refusals.{on, listed_fault, statement_fault, on_sound}
+use Rattle.content.specs.Refusals.{on, listed_fault, statement_fault}
 use Rattle.field.specs.declared.Tag.{Tag}
 use Rattle.field.specs.declared.Tag.TheVariants as tag
 use Rattle.field.specs.Fields.{field_bytes}
@@ -112,12 +109,12 @@ abbrev pub moved_by : Call → Writer → Writer
 moved_by call w = record { state = after (call_tag call) w.state (version_of call) (w.state.place + length (call_field call)); closed = closes call }
 
 -- "bytes and state then stay"
-abbrev called_on : Checked → Call → Writer → Called
+abbrev pub called_on : Checked → Call → Writer → Called
 called_on (Refused x) call w = record { checked = Refused x; writer = w }
 called_on Sound call w = record { checked = Sound; writer = moved_by call w }
 
 -- "A call that is taken writes the field's bytes after those before and no others."
-abbrev written_on : Checked → Call → Writer → List ℕ → List ℕ
+abbrev pub written_on : Checked → Call → Writer → List ℕ → List ℕ
 written_on (Refused x) call w s = s
 written_on Sound call w s = put s w.state.place (call_field call)
 
@@ -138,29 +135,7 @@ pub record Passes (w : Writer) (room : ℕ) (call : Call) : Type 0 where
   pub right : argument_fault w.state.curves call ≡ Sound
   pub fits : w.state.place + length (call_field call) ≤ room
 
-first_sound : (x y : Checked) → first x y ≡ Sound → (x ≡ Sound) × (y ≡ Sound)
-first_sound (Refused x) y e = (cc, cc)
-first_sound Sound y e = (refl, e)
-
-pub passes : (w : Writer) (room : ℕ) (call : Call) → (call_fault w room call ≡ Sound) ↔ Passes w room call
-unfolding call_fault order_fault room_fault
-passes w room call = (
-  λ e.
-      let order = first_sound (order_fault w (call_tag call)) _ e in
-      let rest = first_sound (argument_fault w.state.curves call) _ order.1 in
-      let t₁ = on_sound w.closed OutOfOrder _ order.0 in
-      let t₂ = on_sound (not (in_order (call_tag call) w.state.version w.state.claims)) OutOfOrder _ t₁.1 in
-      let t₃ = on_sound (full (call_tag call) w.state.curves w.state.claims) TooMany _ t₂.1 in
-      let t₄ = on_sound (ltb room (w.state.place + length (call_field call))) NoRoom _ rest.1 in
-      record { still_open = t₁.0; ordered = not-false _ t₂.0; few = t₃.0; right = rest.0; fits = ltb-false _ _ t₄.0 },
-  λ p. rw (p.still_open, p.ordered, p.few, p.right, le-ltb room (w.state.place + length (call_field call)) p.fits),
-)
-
 module _ (call : Call) (w : Writer) (s : List ℕ) where
-  pub call_refused : (x : Refusal) → call_fault w (length s) call ≡ Refused x → (called call w s ≡ record { checked = Refused x; writer = w }) × (written call w s ≡ s)
-  unfolding called written
-  call_refused x e = (ap (λ (y : Checked). called_on y call w) e, ap (λ (y : Checked). written_on y call w s) e)
-
   pub call_taken : call_fault w (length s) call ≡ Sound
       → (called call w s ≡ record { checked = Sound; writer = moved_by call w }) × (written call w s ≡ put s w.state.place (call_field call))
   unfolding called written

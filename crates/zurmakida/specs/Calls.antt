@@ -24,8 +24,10 @@ use Rattle.book.specs.Listing.{Listing}
 use Rattle.book.specs.RoundTrip.{w8_listing}
 use Rattle.writer.specs.declared.Writer.{Writer}
 use Rattle.writer.specs.declared.Called.{Called}
-use Rattle.writer.specs.Writing.{Call, call_fault, called, written, call_refused, call_taken}
-use Rattle.writer.specs.Sequence.{Desk, step, after_calls, opened, reached, BookSays, Stage, untouched, unfinished, finished, Written, any_calls, closed_sound, calls_for}
+use Rattle.writer.specs.Writing.{Call, call_fault, called, written, call_taken}
+use Rattle.writer.proofs.Tests.{call_refused}
+use Rattle.writer.specs.Sequence.{Desk, step, after_calls, opened, reached, BookSays, Stage, untouched, unfinished, finished, Written, calls_for}
+use Rattle.writer.proofs.Sequence.{any_calls, closed_sound}
 use Rattle.zurmakida.specs.States.{writer_of, answered, answered_on, Kept, state_back, fresh_back}
 
 pub record Held : Type 0 where

@@ -6,8 +6,10 @@ use borrow.Author.Tests.{leb-false}
 use Rattle.content.specs.declared.Checked.TheVariants.{Sound}
 use Rattle.content.specs.Layout.{third_small}
 use Rattle.field.specs.Steps.{max_claims, full, after}
-use Rattle.writer.specs.Writing.{Call, add_claim, call_field, argument_fault, call_fault, Passes, passes}
-use Rattle.writer.specs.Held.{claim_size, fault_is, moved_by_lem, refused_return, taken_return}
+use Rattle.writer.specs.Writing.{Call, add_claim, call_field, argument_fault, call_fault, Passes}
+use Rattle.writer.proofs.Tests.{passes}
+use Rattle.writer.specs.Held.{claim_size, fault_is, moved_by_lem, taken_return}
+use Rattle.writer.proofs.Tests.{refused_return}
 use Rattle.writer.proofs.calls.add_claim.Goals as goal
 
 pub overflow_add-size : goal.overflow_add-size

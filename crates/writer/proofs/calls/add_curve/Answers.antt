@@ -5,8 +5,10 @@ use lib.ListN.{length}
 use borrow.Author.Tests.{leb-false}
 use Rattle.content.specs.declared.Checked.TheVariants.{Sound}
 use Rattle.field.specs.Steps.{max_curves, full, after}
-use Rattle.writer.specs.Writing.{Call, add_curve, call_field, argument_fault, call_fault, Passes, passes}
-use Rattle.writer.specs.Held.{curve_size, fault_is, moved_by_lem, refused_return, taken_return}
+use Rattle.writer.specs.Writing.{Call, add_curve, call_field, argument_fault, call_fault, Passes}
+use Rattle.writer.proofs.Tests.{passes}
+use Rattle.writer.specs.Held.{curve_size, fault_is, moved_by_lem, taken_return}
+use Rattle.writer.proofs.Tests.{refused_return}
 use Rattle.writer.proofs.calls.add_curve.Goals as goal
 
 pub returns-in-Refused : goal.returns-in-Refused

@@ -3,8 +3,10 @@ use native.Mathlib.Omega.{arith}
 use lib.ListN.{length}
 use Rattle.content.specs.declared.Checked.TheVariants.{Sound}
 use Rattle.field.specs.Steps.{after}
-use Rattle.writer.specs.Writing.{Call, close, call_field, argument_fault, call_fault, Passes, passes}
-use Rattle.writer.specs.Held.{end_size, fault_is, moved_by_lem, refused_return, taken_return}
+use Rattle.writer.specs.Writing.{Call, close, call_field, argument_fault, call_fault, Passes}
+use Rattle.writer.proofs.Tests.{passes}
+use Rattle.writer.specs.Held.{end_size, fault_is, moved_by_lem, taken_return}
+use Rattle.writer.proofs.Tests.{refused_return}
 use Rattle.writer.proofs.calls.close.Goals as goal
 
 pub returns-in-Refused : goal.returns-in-Refused

@@ -1,0 +1,3 @@
+-- What rests on the order of the tests and on what a refused call leaves: Tests, one call; Sequence, any calls.
+pub mod Tests
+pub mod Sequence
