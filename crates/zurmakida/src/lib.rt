@@ -1,5 +1,6 @@
 // The entries for C, all in one archive. include/zurmakida.h says what a caller has to know.
 #![tactic(auto)]
+
 ghost use Rattle.std.specs.Prelude.{◌≡◌};
 ghost use Rattle.book.specs.Values.{value_asked, told};
 ghost use Rattle.judge.specs.Run.{answer_of, buffer_of};
