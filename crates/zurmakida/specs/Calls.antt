@@ -2,7 +2,7 @@
 -- passed the state that the call before it answered.
 --
 --     Held, called_from, held_after     a state and the lent bytes, after one call and after a list of them; held_from:
---                                     from state 0
+--                      from state 0
 --     kept_after       whatever the calls, a writer's parts have room in the number
 --     state_calls      so the numbers go as the writer goes: what any_calls and the theorems after it say of calls one
 --                      after the other holds of C's
