@@ -50,7 +50,7 @@ fn unproved(line: &str, functions: &[source::Function]) -> Option<(String, Strin
     let (place, message) = line.strip_prefix("note: ")?.split_once(": it is not proved that ")?;
     let mut place = place.split(':');
     let (file, number) = (place.next()?, place.next()?.parse().ok()?);
-    let goal = message.split(')').next()?.rsplit('`').nth(1)?;
+    let goal = message.rsplit("(`").next()?.split('`').next()?;
     Some((source::at(functions, file, number)?.path.clone(), goal.to_string()))
 }
 

@@ -74,7 +74,8 @@ fn held(wrong: &Wrong, said: &Said) -> Result<(), String> {
     if goals.contains(&wrong.goal.as_str()) {
         return Ok(());
     }
-    goals.dedup();
+    let mut seen = BTreeSet::new();
+    goals.retain(|goal| seen.insert(*goal));
     Err(match goals.is_empty() {
         true => "it is refused elsewhere only, by what its function calls or for a proof that no longer fits".to_string(),
         false => format!("it is refused at {}, and not at {}", goals.join(", "), wrong.goal),
