@@ -6,9 +6,10 @@
 --     said, verdict_line   a verdict as document 01's words, and the line of claim k; verdict_lines: those of the first
 --                         claims
 --     text_refused        a refused book: its refusal's number and its place, on one line
---     text_judged         a sound book: the verdict on each claim, the totals, and whether it is certified
+--     said-so, roomy      the words are those of the claim's record; the lines have room
 --
--- Any book is one or the other: `inspected` of the judge.
+-- The law of a sound book, text_judged, stands in proofs/Texts.antt. Any book is refused or sound: `inspected` of the
+-- judge.
 use Prim.Native.Nat.{ℕ, zero, suc, ◌+◌, ◌*◌, ◌≤◌}
 use Rattle.std.specs.Prelude.{◌≡◌, replicate}
 use Rattle.std.proofs.Math.Path.{refl, ap₂}
@@ -25,7 +26,7 @@ use Rattle.judge.specs.Run.{answer_of, buffer_of}
 use Rattle.judge.specs.Inspector.{Refused}
 use Rattle.report.specs.Text.{bytes}
 use Rattle.report.specs.Lines as lines
-use Rattle.report.specs.Lines.{max_line, part, verdict_words, claim_line, claim_lines, total_line, certified_line, refused_line, report_in, report_refused, report_judged}
+use Rattle.report.specs.Lines.{max_line, part, verdict_words, claim_line, claim_lines, total_line, certified_line, refused_line, report_in, report_refused}
 
 abbrev pub blank : List ℕ
 blank = replicate (record_size * max_claims) 0
