@@ -14,8 +14,8 @@ pub struct Wrong {
     pub function: String,
     /// Made together, each at the one place of the body that has its text.
     pub changes: Vec<Change>,
-    /// The need that must fail.
-    pub need: String,
+    /// The goal that must fail.
+    pub goal: String,
 }
 
 pub struct List {
@@ -33,8 +33,8 @@ fn whole(wrong: &Wrong) -> Result<(), String> {
     if wrong.changes.is_empty() || wrong.changes.iter().any(|c| c.old.is_empty()) {
         return Err(format!("{}: it changes nothing", wrong.name));
     }
-    if wrong.need.is_empty() {
-        return Err(format!("{}: it names no need", wrong.name));
+    if wrong.goal.is_empty() {
+        return Err(format!("{}: it names no goal", wrong.name));
     }
     Ok(())
 }
@@ -71,9 +71,9 @@ pub fn read(text: &str) -> Result<List, String> {
                 return bad("'+' without '-'");
             }
             side.push_str(line[1..].strip_prefix(' ').unwrap_or(&line[1..]));
-        } else if let Some(need) = line.strip_prefix("! ") {
-            let Some(wrong) = list.wrongs.last_mut() else { return bad("a need of no wrong program") };
-            wrong.need = need.to_string();
+        } else if let Some(goal) = line.strip_prefix("! ") {
+            let Some(wrong) = list.wrongs.last_mut() else { return bad("a goal of no wrong program") };
+            wrong.goal = goal.to_string();
         } else {
             let Some((name, words)) = line.split_once(": ") else { return bad("it is nothing that a list has") };
             if !word(name) || words.is_empty() || function.is_empty() {
@@ -85,7 +85,7 @@ pub fn read(text: &str) -> Result<List, String> {
             if let Some(before) = list.wrongs.last() {
                 whole(before)?;
             }
-            list.wrongs.push(Wrong { name: name.to_string(), function: function.clone(), changes: Vec::new(), need: String::new() });
+            list.wrongs.push(Wrong { name: name.to_string(), function: function.clone(), changes: Vec::new(), goal: String::new() });
         }
     }
     if let Some(last) = list.wrongs.last() {

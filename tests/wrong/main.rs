@@ -1,5 +1,5 @@
 //! Wrong programs, tried by the dozen: each puts another text into one function, and the prover has to refuse that
-//! function at the need that is named for it.
+//! function at the goal that is named for it.
 //!
 //! list.rs     the lists of wrong programs           source.rs   the functions of a crate, and a changed one
 //! said.rs     what the prover said                  trial.rs    a batch of changes in a copy of the tree
@@ -8,7 +8,8 @@
 //! wrong gate|all COPY1,COPY2.. LISTS CRATE..
 //!   tries the wrong programs of each crate's list, LISTS/CRATE.txt, in the copies, one crate at a time in each: all of
 //!   them, or as many as the gate holds. A batch has one change in each of many functions, and is one run of the
-//!   prover. The last line counts the wrong programs that were refused as they must be and what failed.
+//!   prover. What waits there for a changed function that it calls is in a later batch without that change. The last
+//!   line counts the wrong programs that were refused as they must be and what failed.
 //! wrong promises TOP LISTS CRATE..
 //!   looks for the wrong programs that docs/PROMISES.md names, and for the public functions of the crates in it.
 
@@ -27,13 +28,6 @@ use std::sync::Mutex;
 use std::thread;
 use std::time::Instant;
 
-/// What came of one crate's list.
-struct Tally {
-    refused: usize,
-    failed: Vec<String>,
-    batches: usize,
-}
-
 /// Every function with a promise has wrong programs: four if it is public, else one, or a reason why it has fewer.
 fn uncovered(functions: &[source::Function], list: &list::List) -> Vec<String> {
     let mut missing = Vec::new();
@@ -49,34 +43,24 @@ fn uncovered(functions: &[source::Function], list: &list::List) -> Vec<String> {
     missing
 }
 
-/// The k-th change of each function is in the k-th batch. The gate holds the first four.
-fn batches_of(list: &list::List, gate: bool) -> Vec<Vec<&list::Wrong>> {
-    let mut batches: Vec<Vec<&list::Wrong>> = Vec::new();
+/// All of a list, or of each function the first four, which the gate holds.
+fn held(list: &list::List, gate: bool) -> Vec<&list::Wrong> {
+    let mut held: Vec<&list::Wrong> = Vec::new();
     for wrong in &list.wrongs {
-        match batches.iter_mut().find(|batch| batch.iter().all(|w| w.function != wrong.function)) {
-            Some(batch) => batch.push(wrong),
-            None => batches.push(vec![wrong]),
+        if !gate || held.iter().filter(|w| w.function == wrong.function).count() < 4 {
+            held.push(wrong);
         }
     }
-    if gate {
-        batches.truncate(4);
-    }
-    batches
+    held
 }
 
-fn try_list(copy: &Path, lists: &Path, name: &str, gate: bool) -> Result<Tally, String> {
+fn try_list(copy: &trial::Copy, lists: &Path, name: &str, gate: bool) -> Result<trial::Tried, String> {
     let text = fs::read_to_string(lists.join(name).with_extension("txt")).map_err(|e| format!("its list can't be read: {e}"))?;
     let list = list::read(&text)?;
-    let functions = source::functions(&copy.join("crates").join(name))?;
-    let mut failed = uncovered(&functions, &list);
-    let batches = batches_of(&list, gate);
-    let mut refused = 0;
-    for batch in &batches {
-        let (well, badly) = trial::batch(copy, name, &functions, batch)?;
-        refused += well;
-        failed.extend(badly);
-    }
-    Ok(Tally { refused, failed, batches: batches.len() })
+    let functions = source::functions(&copy.top.join("crates").join(name))?;
+    let mut tried = trial::all(copy, name, &functions, &held(&list, gate))?;
+    tried.failed.splice(0..0, uncovered(&functions, &list));
+    Ok(tried)
 }
 
 fn main() -> ExitCode {
@@ -99,22 +83,25 @@ fn main() -> ExitCode {
     // the longest lists first, so that no copy is left with one at the end
     let mut order: Vec<&String> = crates.iter().collect();
     order.sort_by_key(|name| std::cmp::Reverse(fs::metadata(lists.join(name).with_extension("txt")).map_or(0, |m| m.len())));
+    let copies: Vec<&str> = copies.split(',').collect();
+    let jobs = thread::available_parallelism().map_or(1, |n| n.get()).div_ceil(copies.len());
     let queue = Mutex::new(order.into_iter().collect::<VecDeque<_>>());
     let totals = Mutex::new((0, 0));
     thread::scope(|scope| {
-        for copy in copies.split(',') {
+        for copy in &copies {
+            let copy = trial::Copy { top: Path::new(copy), jobs };
             let (queue, totals, lists) = (&queue, &totals, &lists);
             scope.spawn(move || loop {
                 let Some(name) = queue.lock().unwrap().pop_front() else { break };
                 let began = Instant::now();
-                let tally = try_list(Path::new(copy), lists, name, gate).unwrap_or_else(|why| Tally { refused: 0, failed: vec![why], batches: 0 });
+                let tried = try_list(&copy, lists, name, gate).unwrap_or_else(|why| trial::Tried { refused: 0, failed: vec![why], batches: 0 });
                 let mut totals = totals.lock().unwrap();
-                totals.0 += tally.refused;
-                totals.1 += tally.failed.len();
-                for why in &tally.failed {
+                totals.0 += tried.refused;
+                totals.1 += tried.failed.len();
+                for why in &tried.failed {
                     println!("failed: {name}: {why}");
                 }
-                println!("{name}: {} wrong programs refused, {} failed, in {} batches ({} s)", tally.refused, tally.failed.len(), tally.batches, began.elapsed().as_secs());
+                println!("{name}: {} wrong programs refused, {} failed, in {} batches ({} s)", tried.refused, tried.failed.len(), tried.batches, began.elapsed().as_secs());
             });
         }
     });

@@ -14,6 +14,8 @@ pub struct Function {
     pub file: PathBuf,
     /// Where its body stands in the file, without the braces. Contracts are not in it.
     pub body: Range<usize>,
+    /// Its lines in the file, from 1 on, signature and contract among them.
+    pub lines: Range<usize>,
 }
 
 /// `fn NAME` behind its visibility: whether it is public, and NAME.
@@ -63,9 +65,14 @@ fn in_file(file: &Path, text: &str, found: &mut Vec<Function>) -> Result<(), Str
         let open = k + lines[k..].iter().position(|l| opens(&l)).ok_or_else(lost)?;
         let close = open + 1 + lines[open + 1..].iter().position(|(_, l)| *l == format!("{indent}}}")).ok_or_else(lost)?;
         let promised = lines[k..=open].iter().any(|(_, l)| l.trim_start().starts_with("ensures"));
-        found.push(Function { path, public, promised, file: file.to_path_buf(), body: lines[open + 1].0..lines[close].0 });
+        found.push(Function { path, public, promised, file: file.to_path_buf(), body: lines[open + 1].0..lines[close].0, lines: k + 1..close + 2 });
     }
     Ok(())
+}
+
+/// The one that has this line of the file SRC/NAME, where `place` is src/NAME.
+pub fn at<'a>(functions: &'a [Function], place: &str, line: usize) -> Option<&'a Function> {
+    functions.iter().find(|f| f.file.ends_with(place) && f.lines.contains(&line))
 }
 
 pub fn functions(dir: &Path) -> Result<Vec<Function>, String> {

@@ -1,7 +1,7 @@
 -- What the code holds of a book that it reads.
 --
 --     places_of, book_of     the places in arrays, and the book with them (held_book)
---     reading_of        the answer as the code's struct: a refused book holds nothing; passed_up, outcome_of: from a
+--     reading_of       the answer as the code's struct: a refused book holds nothing; passed_up, outcome_of: from a
 --                      field's answer
 --     read_refused, read_sound     what the answer's outcome tells of the book
 --     Reads            a reader stands at a state of a book: reads_start; reads_refused, reads_end, reads_version,

@@ -1,14 +1,14 @@
 -- What a book says, as values, and the bytes that say it. Document 01, 'The book': "Order: version, curves, claims,
 -- end."
 --
---     Listing, listed            a version, curves and claims
---     curve_fields, claim_fields   one field after the other (fields_of)
---     open_bytes, book_bytes       a book without its end, and with it
---     begun, with_curve, with_claim     nothing but a version, and one more: its field stands after those before it
+--     Listing, listed                 a version, curves and claims
+--     curve_fields, claim_fields      one field after the other (fields_of)
+--     open_bytes, book_bytes          a book without its end, and with it
+--     begun, with_curve, with_claim   nothing but a version, and one more: its field stands after those before it
 --                                     (open_begun, open_curve, open_claim)
---     WellListed                 within document 01's limits: well_begun, well_curve, well_claim
---     listing_in                  what a book says that holds such contents (curve_at, claim_at)
---     length_book                a book is never too long; bytes_book: and it is bytes
+--     WellListed                      within document 01's limits: well_begun, well_curve, well_claim
+--     listing_in                      what a book says that holds such contents (curve_at, claim_at)
+--     length_book                     a book is never too long; bytes_book: and it is bytes
 use Prim.Native.Nat.{ℕ, ◌+◌, ◌*◌, ◌≤◌, ◌<◌}
 use Rattle.std.specs.Prelude.{◌≡◌, true}
 use Rattle.std.proofs.Math.Path.{sym, ap, subst}

@@ -4,7 +4,7 @@
 --     Contents         a sound book: its version, and at which byte the field of each curve and each claim begins
 --     Read             what any list of bytes is
 --     read_on, read_from     field by field, from a state on
---     read_book         a book: of at most max_bytes, from start on
+--     read_book        a book: of at most max_bytes, from start on
 use Rattle.std.specs.Prelude.{ℕ, zero, suc, true, false, List, [], ◌∷◌, ◌++◌, length, ltb}
 use Rattle.content.specs.declared.Refusal.{Refusal}
 use Rattle.content.specs.declared.Refusal.TheVariants.{Torn, BookTooLong}

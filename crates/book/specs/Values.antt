@@ -2,11 +2,11 @@
 -- book gives its refusal; then a number that names no curve is 11, a tick above 2,000,000,000 is 12, both with place 0
 -- and no value."
 --
---     curve_named       curve k of a book whose curves' fields begin at those places (named_array); of a sound book it
+--     curve_named      curve k of a book whose curves' fields begin at those places (named_array); of a sound book it
 --                      is well formed (named_well)
---     value_asked       the answer, by asked_of; max_tick: the largest tick; asked_refused, asked_none, asked_far,
+--     value_asked      the answer, by asked_of; max_tick: the largest tick; asked_refused, asked_none, asked_far,
 --                      asked_value: by what the book is
---     refusal_word      a refusal and its place as one number, as the harness gets it
+--     refusal_word     a refusal and its place as one number, as the harness gets it
 --     told             the answer for C; asked_near: its place fits
 use Rattle.std.specs.Prelude.{ℕ, ◌+◌, ◌*◌, ◌≤◌, ◌<◌, ◌≡◌, Bool, true, false, List, length, get_or, leb, ltb}
 use Rattle.std.proofs.Math.Path.{refl}

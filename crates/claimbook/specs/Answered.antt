@@ -2,8 +2,8 @@
 --
 --     blank               the verdict buffer before the judge is called: room for 256 records
 --     room                the bytes that the lines are written into
---     text_for n book      document 01's lines for the book, where n bytes have room for them
---     said, verdict_line   a verdict as document 01's words, and the line of claim k; verdict_lines: those of the first
+--     text_for n book     document 01's lines for the book, where n bytes have room for them
+--     said, verdict_line  a verdict as document 01's words, and the line of claim k; verdict_lines: those of the first
 --                         claims
 --     text_refused        a refused book: its refusal's number and its place, on one line
 --     said-so, roomy      the words are those of the claim's record; the lines have room

@@ -1,8 +1,8 @@
 -- A claim as the code goes through it: the kind with X, then the ids, then X again.
 --
---     named_fault               why a claim is refused, by what `Claim::new` says of kind and X; fault_named: that is
+--     named_fault              why a claim is refused, by what `Claim::new` says of kind and X; fault_named: that is
 --                              statement_fault
---     claimed_by                h, where the claim has one
+--     claimed_by               h, where the claim has one
 --     field_refused, field_stated     what is stated, by whether something is refused
 use Rattle.std.specs.Prelude.{ℕ, ◌≡◌, Bool, ltb}
 use Rattle.std.proofs.Math.Path.{refl, sym, ap}

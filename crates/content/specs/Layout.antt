@@ -1,14 +1,14 @@
 -- The contents of curves and claims. Document 01, 'The book': "numbers high byte first".
 --
---     rank_in, period_in, increment_in   "01: T (2), d (2), c (4), then T+d values (4 each)": read from a content
---     count_in, value_in, curve_in       (curve_head: the bytes of T, d and c; whole_in: how many values are all there;
+--     rank_in, period_in, increment_in     "01: T (2), d (2), c (4), then T+d values (4 each)": read from a content
+--     count_in, value_in, curve_in    (curve_head: the bytes of T, d and c; whole_in: how many values are all there;
 --                                     value_missing: the others are 0)
---     curve_bytes, values_bytes         the same, written
---     Statement, claim_in              "02: kind, left, right (1 each), then h (1) for kinds 1 to 3 or X (4) for 4 to
+--     curve_bytes, values_bytes       the same, written
+--     Statement, claim_in             "02: kind, left, right (1 each), then h (1) for kinds 1 to 3 or X (4) for 4 to
 --                                     7": read from a content
---     third_width, claim_length         (at most 4: third_small; width_of: by the kind, third_in)
---     claim_bytes                      the same, written
---     kind_in, id_in                    a claim's kind and the ids in it
+--     third_width, claim_length       (at most 4: third_small; width_of: by the kind, third_in)
+--     claim_bytes                     the same, written
+--     kind_in, id_in                  a claim's kind and the ids in it
 use Rattle.std.specs.Prelude.{ℕ, ◌+◌, ◌-◌, ◌*◌, ◌/◌, ◌≤◌, ◌≡◌, refl, Bool, true, false, length, ltb}
 use Rattle.std.proofs.Common.{ap, ◌∙◌, arith}
 use mathlib.Core.List.{List, ◌++◌, flat_map}

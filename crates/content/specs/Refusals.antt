@@ -1,11 +1,13 @@
 -- Why a content is refused. Document 01, 'Refusal numbers', from "then by tag" on, for curves and claims.
 --
---     number_of         the number of each refusal
---     on               a test that refuses, before what is tried after it
---     no_span, limit_fault     what is refused of a curve by its numbers, over values_fit, values_rise and seam_holds
---     listed_fault      a curve and a list of values, as the writer gets them; curve_fault: a content, as the reader does
---     statement_fault   a claim by its numbers, by kind_fault over none_named, last_id and far_x; claim_fault: a content
---     stated_of         a claim as a value: claimed_of, its claimed curve
+--     number_of              the number of each refusal
+--     on                     a test that refuses, before what is tried after it
+--     no_span, limit_fault   what is refused of a curve by its numbers, over values_fit, values_rise and seam_holds
+--     listed_fault           a curve and a list of values, as the writer gets them; curve_fault: a content, as the
+--                            reader does
+--     statement_fault        a claim by its numbers, by kind_fault over none_named, last_id and far_x; claim_fault: a
+--                            content
+--     stated_of              a claim as a value: claimed_of, its claimed curve
 --     statement_field, claim_field     the same, with what is stated where nothing is refused (stated, stated_or)
 --     on_sound, or_false     what is known where nothing was refused; claim_odd, claim_whole: by the length of a
 --                            claim's content

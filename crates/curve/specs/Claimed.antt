@@ -1,10 +1,10 @@
 -- The claim that the code's values stand for.
 --
---     operation_of               kinds 1 to 3
---     deviation_of, amount_of       kinds 4 to 7, and their X
---     claim_over                 the claim, from the enum and curves
---     claim_of                   the same, of curves in their working copies
---     bound_over                 a claim of kinds 4 to 7 alone
+--     operation_of              kinds 1 to 3
+--     deviation_of, amount_of   kinds 4 to 7, and their X
+--     claim_over                the claim, from the enum and curves
+--     claim_of                  the same, of curves in their working copies
+--     bound_over                a claim of kinds 4 to 7 alone
 --     LentClaim                 forms that are lent with a claim, and an X within its limit: the left and the right one
 --                               are lent (two_lent). So are those of a well-formed claim of working copies (claim_lent)
 --     two_well                  of a well-formed claim the left and the right curve are well formed

@@ -1,8 +1,8 @@
 -- An array that is filled from the front, one store a turn, and is 0 from there on.
 --
---     in_array room l     an array of that room with l at its front: array_more, after one more store; array_at, what is
+--     in_array room l    an array of that room with l at its front: array_more, after one more store; array_at, what is
 --                        stored
---     list_of F k         F(0) to F(k-1)
+--     list_of F k        F(0) to F(k-1)
 --     filled F room k    that list in an array: the array after k stores
 --     filled_none, filled_more     before the first store, and after one more
 --     filled-length, filled_at     how long it is, and what is stored

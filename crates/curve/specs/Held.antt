@@ -1,12 +1,12 @@
 -- The curve that the code's values stand for.
 --
---     held_as, steps_in, curve_of     numbers and an array of rises as a form; those of a struct; their curve. What stands
+--     held_as, steps_in, curve_of  numbers and an array of rises as a form; those of a struct; their curve. What stands
 --                                  in the array from T+d on counts for nothing (form_same)
---     rates_of                      a curve of a form's numbers that lists nothing: rates depend on no value
---     held_over, form_over           a curve with its rises in the place of its values, and its other numbers
+--     rates_of                     a curve of a form's numbers that lists nothing: rates depend on no value
+--     held_over, form_over         a curve with its rises in the place of its values, and its other numbers
 --     padded, holding              a list in the working array (padded-listed: F(0) to F(k-1)), and a curve in the
 --                                  working copy
---     held_count, rises_into         how many rises of a form count, and these over the front of a list
+--     held_count, rises_into       how many rises of a form count, and these over the front of a list
 --     holding-length               of any curve, what is held fills the working array
 --     holding_back                 of a well-formed curve, what is held is that curve
 --     holding_tells                of T+d values, what is held is well formed exactly when they are

@@ -3,7 +3,7 @@
 --     kind_of               a claim's kind: its number is minplus's kind_number, and stands there alone
 --     limited_by            a claim with an X that may be too large; within: X, where it is not (limited-within)
 --     claim_with            the claim of a kind with an X: it has that kind (kind_with)
---     named_as, named_by     the answer for a kind, if there is one, and an X; for a number and an X
+--     named_as, named_by    the answer for a kind, if there is one, and an X; for a number and an X
 --     x_of, named_back      of a claim's own number and X it is that claim
 use Rattle.std.specs.Prelude.{ℕ, ◌≤◌, ◌≡◌, refl, Bool, true, false, leb, ltb}
 use Rattle.std.proofs.Math.Option.{Option, none, some}

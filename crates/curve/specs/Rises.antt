@@ -2,11 +2,11 @@
 --
 --     rise a b                  from a up to b. A fall has no rise: the largest number of 32 bits stands there, and no
 --                               curve that is well formed has such a rise (rise_falls, rise_holds)
---     next_of, rise_of, steps_of   what comes after a listed value, the rise to it, and the form of a curve (next_inside,
---                               next_last)
---     rise_within, after_last     the same of a list that may lack values, and what comes after its last one
+--     next_of, rise_of, steps_of     what comes after a listed value, the rise to it, and the form of a curve
+--                               (next_inside, next_last)
+--     rise_within, after_last   the same of a list that may lack values, and what comes after its last one
 --                               (after_missing, after_seam)
---     rises_over                 the rises in the place of the values (rises-last)
+--     rises_over                the rises in the place of the values (rises-last)
 --     rise_same                 the same T+d values have the same rises
 --     steps_back                a well-formed curve is the curve of its form,
 --     steps_good                which is a good one

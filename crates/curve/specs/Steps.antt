@@ -5,15 +5,15 @@
 -- repeat. Rises.antt has the form of a curve, and that there is one; Stepped.antt that its values are the curve's.
 --
 --     Steps                     T, d, c, the first value and the rises
---     step_count, rise_in         T+d, and one of the rises; largest is the largest number of 32 bits
---     sum_to r k                 r(0) + .. + r(k-1)
+--     step_count, rise_in       T+d, and one of the rises; largest is the largest number of 32 bits
+--     sum_to r k                r(0) + .. + r(k-1)
 --     reached s k               the first value and the first k rises (risen_to): for k < T+d, the listed value
 --     closes s                  the rises of one period add up to c
---     curve_from s               the curve of a form (listed_from: its list). Rises that do not close are no curve's:
+--     curve_from s              the curve of a form (listed_from: its list). Rises that do not close are no curve's:
 --                               nothing is listed then, so that the curve is not well formed (well_closes)
---     place_at, place_after       which rise comes after a tick: one after the other, from the last one back to the T-th
+--     place_at, place_after     which rise comes after a tick: one after the other, from the last one back to the T-th
 --     stepped s n               the first value and the sum of the n rises before n, which repeat from T on
---     value_by s n               the same with whole periods by one multiplication
+--     value_by s n              the same with whole periods by one multiplication
 --     Good s                    T+d rises, and a curve that is well formed
 --     Lent s                    at least so many: what is lent to be judged on
 --     Sized s                   what that asks of the numbers alone: sized_well, well_sized

@@ -1,7 +1,7 @@
 -- The table of a curve's values at the ticks from 0 on, in 32 bits.
 --
 --     cell F n           F(n), or the largest number of 32 bits where it needs more
---     table_over          the values over as many places as there are, at most 4,097
+--     table_over         the values over as many places as there are, at most 4,097
 --     table_at           of a form with a well-formed curve each of them is the curve's value; table_length: as many
 --                        places as before
 use Rattle.std.specs.Prelude.{ℕ, ◌+◌, ◌≤◌, ◌<◌, min, ◌≡◌, List, length, get_or}

@@ -1,13 +1,13 @@
 -- A walk over a curve's ticks, as the code holds it: the place of the next rise, and the value.
 --
 --     most                    the largest number of 64 bits; a value that needs more stands as that one
---     turned_to, walk_by        where a tick comes to (place_by: its place), and a walk that begins there, of any numbers
---     walk_start               a walk that begins at tick 0
---     next_walk, walk_on        one tick on, and so many
+--     turned_to, walk_by      where a tick comes to (place_by: its place), and a walk that begins there, of any numbers
+--     walk_start              a walk that begins at tick 0
+--     next_walk, walk_on      one tick on, and so many
 --     Walkable                what one tick on asks: a rise that is there, and a value that fits
---     walk_at s n              a walk that stands at tick n. Of a form whose curve is well formed it begins so
---                             (walk_begins, walk_starts) and goes on so (walk_goes_on, walk_on_lem), as long as ticks have
---                             32 bits; of one that is lent it can go on (walk_able), as a loop has it (walk_next)
+--     walk_at s n             a walk that stands at tick n. Of a form whose curve is well formed it begins so
+--                             (walk_begins, walk_starts) and goes on so (walk_goes_on, walk_on_lem), as long as ticks
+--                             have 32 bits; of one that is lent it can go on (walk_able), as a loop has it (walk_next)
 --     value-held              so is one value
 use Prim.Native.Nat.{ℕ, zero, suc, ◌+◌, ◌-◌, ◌/◌, ◌%◌, ◌≤◌, ◌<◌, min}
 use Rattle.std.specs.Prelude.{◌≡◌, length}

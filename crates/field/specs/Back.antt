@@ -2,11 +2,11 @@
 --
 --     version_fits              a version is a number of seven bits and not 0 (begun-on): all that is used of it
 --     version_back, version_taken     a version's content, read of its bytes; version_sound, version_again: one that is
---                                     not refused
---     tag_back, tag_number_lem      a tag and its number
+--                               not refused
+--     tag_back, tag_number_lem  a tag and its number
 --     length_field              how many bytes are written; bytes_field, content-bytes: they are bytes, and so is a
 --                               content that is read of bytes
---     field_tag, field_content     tag and content, read of a field's bytes
+--     field_tag, field_content  tag and content, read of a field's bytes
 --     field_taken               a field that stands where a reader is, in order, with room and with a sound content, is
 --                               taken
 --     field_again               a field that was taken is the bytes of its tag and its content; end-last: after the end

@@ -1,8 +1,8 @@
 -- The book's fields. Document 01, 'The book': "Fields: tag (1 byte), length (2), content; numbers high byte first."
 --
---     tag_number, tag_by                the four tags and their numbers (tags, known)
+--     tag_number, tag_by               the four tags and their numbers (tags, known)
 --     head_length                      the bytes of tag and length
---     tag_of, length_of, content_of      of the field with which a list of bytes begins
+--     tag_of, length_of, content_of    of the field with which a list of bytes begins
 --     content_at                       of the field at a place of the book
 --     version_in                       "10 hex: version, one byte"
 --     field_bytes                      a field, written

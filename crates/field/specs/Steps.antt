@@ -7,7 +7,7 @@
 --     version_fault, end_fault, content_fault     a content, by tag
 --     in_order, full, tagged_fault     a field whose tag is known; field_size: how many bytes it has
 --     after            where a reader stands after a field (after_place)
---     step_on, step_at   a field's answer, by tagged and answer
+--     step_on, step_at     a field's answer, by tagged and answer
 --     field_cases      a field is refused at its place (refused_at), or its tests pass and it is taken
 --     Takes            what is known of a field that is taken (takes); next_place, next_inside: the next place is in
 --                      the book or at its end

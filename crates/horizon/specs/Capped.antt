@@ -7,7 +7,7 @@
 --     capped_twice      D capped, and then P capped over that, is P capped: of any three periods
 --     capped_given      from 4,097 or more it is 4,097, in either place, whatever the other period
 --     plus_capped, max-capped     sums and greater ones are the same of numbers that are capped to one
---     horizon_from       the answer for a horizon: itself up to 4,096, and above that no number (horizon_at,
+--     horizon_from      the answer for a horizon: itself up to 4,096, and above that no number (horizon_at,
 --                       horizon_above)
 --     horizon-capped    which is the same of numbers that are capped to one
 --     capped_rows, horizon_rows     computed

@@ -1,19 +1,20 @@
 -- What the steps of the horizon's code compute, in the words of the crate minplus.
 --
---     choice greatest           the greater or the lesser of two numbers
---     signed_of                  a struct of two numbers as a signed number
---     Limited                   a curve's numbers keep their limits, as those of a well-formed one do (limited)
---     Raisable, Extent, Small, Ready, Crossable      what is known where it is computed, so that products fit: no
+--     choice greatest                      the greater or the lesser of two numbers
+--     signed_of                            a struct of two numbers as a signed number
+--     Limited                              a curve's numbers keep their limits, as those of a well-formed one do
+--                                          (limited)
+--     Raisable, Extent, Small, Ready, Crossable     what is known where it is computed, so that products fit: no
 --                                          extreme is above large, no sum of products above far
 --     raised_fits, raisable, small_more, choice_fits, begun_fits, above_fits, below_fits, faster_fits     that they do
---     even_rank, crossing_n       the rank with equal rates from D, and N where f is the slower curve
---     rates_left, rates_right, rates_even     by the three ways in which two rates can stand; convolution_none,
---                                             convolution_some: by T
---     rank_is                   R is the greater of the two, with D itself
---     result_capped, result_far     K+P, from a D and a P that stop counting, and where N is above the limit
---     horizon_numbers           of the claimed curve the horizon asks the numbers alone
---     horizon_answer             the answer: no horizon for a claim that is not well formed (horizon_none), else its
---                               horizon as far as there is one (horizon_some)
+--     even_rank, crossing_n                the rank with equal rates from D, and N where f is the slower curve
+--     rates_left, rates_right, rates_even  by the three ways in which two rates can stand; convolution_none,
+--                                          convolution_some: by T
+--     rank_is                              R is the greater of the two, with D itself
+--     result_capped, result_far            K+P, from a D and a P that stop counting, and where N is above the limit
+--     horizon_numbers                      of the claimed curve the horizon asks the numbers alone
+--     horizon_answer                       the answer: no horizon for a claim that is not well formed (horizon_none),
+--                                          else its horizon as far as there is one (horizon_some)
 use Rattle.std.specs.Prelude.{ℕ, suc, ◌+◌, ◌-◌, ◌*◌, ◌≤◌, ◌<◌, min, max, ◌≡◌, refl, Bool, true, false, List}
 use Rattle.std.proofs.Common.{sym, ap, ◌∙◌, arith, mul-le-mul, le_of_lt}
 use Rattle.std.proofs.Math.Nat.{max_comm}

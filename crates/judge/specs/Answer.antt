@@ -2,12 +2,13 @@
 -- 2^24 * accepted + 2^36 * refuted + 2^48 * not judged"; of a record "code, tick (4 bytes), left value (8), right value
 -- (8), high byte first". Document 02, A3: "from 21 to 23 bytes: two bytes at the end with the number of ticks tried".
 --
---     answer_with                an answer from its parts
+--     answer_with                                     an answer from its parts
 --     refusal_in, place_in, accepted_in, refuted_in, unjudged_in     the parts of an answer (answer_parts)
---     claims_in                  the three totals together
---     certified                 over the totals: "yes exactly when there is at least one claim and all are accepted"
---     record_size, code_in, tick_in, left_in, right_in, tried_in     the record of a claim in a buffer; record_in: the five
---                                                     numbers together
+--     claims_in                                       the three totals together
+--     certified                                       over the totals: "yes exactly when there is at least one claim
+--                                                     and all are accepted"
+--     record_size, code_in, tick_in, left_in, right_in, tried_in     the record of a claim in a buffer; record_in: the
+--                                                     five numbers together
 use Rattle.std.specs.Prelude.{ℕ, ◌+◌, ◌*◌, ◌/◌, ◌%◌, ◌^◌, ◌<◌, ◌≡◌, Bool, ◌&&◌, List, leb, eqb}
 use Rattle.std.proofs.Common.{arith}
 use Rattle.minplus.specs.Verdict.{Record}

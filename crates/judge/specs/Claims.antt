@@ -1,14 +1,14 @@
 -- The claims of a book over its curves.
 --
---     claim_on s places st         what a claim's field states, of the curves whose fields begin at those places
---     claim_read s places curves p     the claim whose field is at p, among so many curves; claim_for: what it states, if
---                                     it states any
---     record_for, verdict_for       the record and the verdict on it
---     stated_kind                 what is stated is what the content's bytes say of its kind
---     StandsOver                  it is a claim of curves that are there and well formed: so is each of a sound book
---                                 (stands_over)
+--     claim_on s places st            what a claim's field states, of the curves whose fields begin at those places
+--     claim_read s places curves p    the claim whose field is at p, among so many curves; claim_for: what it states,
+--                                     if it states any
+--     record_for, verdict_for         the record and the verdict on it
+--     stated_kind                     what is stated is what the content's bytes say of its kind
+--     StandsOver                      it is a claim of curves that are there and well formed: so is each of a sound
+--                                     book (stands_over)
 --     claim_well, claim_read_lem      then it is well formed, and it is what is read there
---     stands_array, claim_array   all the same where the places stand in an array
+--     stands_array, claim_array       all the same where the places stand in an array
 use Rattle.std.specs.Prelude.{ℕ, ◌≤◌, ◌<◌, ◌≡◌, refl, List, Bool, true, false, length, get_or, eqb}
 use Rattle.std.proofs.Math.Path.{sym, ap}
 use Rattle.std.proofs.Common.{subst, ◌∙◌, arith, eqb-true}

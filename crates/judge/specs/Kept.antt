@@ -1,11 +1,11 @@
 -- The curves of a book as a run keeps them: the numbers of all, four each, and the rises of all, 256 each.
 --
---     forms_room, rises_room        how many numbers, for sixteen curves
---     form_in, rises_in, steps_in    of curve k
---     form_after, rises_after       with those of curve n in their place, as many rises as count
+--     forms_room, rises_room      how many numbers, for sixteen curves
+--     form_in, rises_in, steps_in     of curve k
+--     form_after, rises_after     with those of curve n in their place, as many rises as count
 --     Keeps                       arrays with room
 --     Kept s places forms rises n     the first n curves are kept: kept_none, kept_more
---     claim_kept, ClaimReady       what a claim's field states over the curves that are kept, and what judging it asks
+--     claim_kept, ClaimReady      what a claim's field states over the curves that are kept, and what judging it asks
 --     kept_stated, kept_refused   the record, by what the field states
 --     kept_curve, kept_lent       of a curve that is well formed: it is the curve of what is kept, which can be lent
 --     kept_claim, kept_ready      of a claim of a sound book: that is what is read there, and all that is asked holds

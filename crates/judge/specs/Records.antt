@@ -1,9 +1,9 @@
 -- The records as bytes. Document 01, 'Verdicts': "code, tick (4 bytes), left value (8), right value (8), high byte
 -- first"; document 02, A3: "two bytes at the end with the number of ticks tried".
 --
---     record_bytes                 a record's bytes (record_parts); length_record: there are as many as record_size says;
---                                 put_record: written number after number
---     records_to f n               those of f(0) to f(n-1), one after the other (length_records); records_more: one more
+--     record_bytes                a record's bytes (record_parts); length_record: there are as many as record_size
+--                                 says; put_record: written number after number
+--     records_to f n              those of f(0) to f(n-1), one after the other (length_records); records_more: one more
 --                                 is written
 use Rattle.std.specs.Prelude.{ℕ, zero, suc, ◌+◌, ◌*◌, ◌≤◌, ◌≡◌, refl, List, [], ◌++◌, length}
 use Rattle.std.proofs.Common.{sym, ap, ◌∙◌, arith, add-one, length-append}

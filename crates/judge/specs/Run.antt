@@ -5,12 +5,12 @@
 -- are 0, the first [..] bytes per claim are written and the rest stays." Document 02, A3: "Refusal 14 and the unwritten
 -- rest of the buffer are now reckoned with 23."
 --
---     claim_at s c k        claim k of a sound book; record_at, verdict_at, code_at: the record on it, its verdict and its
---                          code
+--     claim_at s c k       claim k of a sound book; record_at, verdict_at, code_at: the record on it, its verdict and
+--                          its code
 --     admitted s room      what a book is to a buffer of so many bytes: sound, or refused for itself or for want of
 --                          room (admitted_on); Room: there is enough
---     answer_of s b         the answer, by answer_on: refused_word, or the totals (totals_on)
---     buffer_of s b         the lent buffer afterwards, by buffer_on
+--     answer_of s b        the answer, by answer_on: refused_word, or the totals (totals_on)
+--     buffer_of s b        the lent buffer afterwards, by buffer_on
 --     run_refused, run_short, run_sound     both, by what the book is and whether the buffer has room
 use Rattle.std.specs.Prelude.{ℕ, ◌*◌, ◌≤◌, ◌<◌, ◌≡◌, true, false, List, length, get_or, ltb}
 use Rattle.std.proofs.Math.Path.{sym, ap}

@@ -2,11 +2,11 @@
 -- book. Each is the number of records with its codes: 1 accepted; 2, 3 and 4 refuted; 5 not judged."
 --
 --     is_accepted, is_refuted, is_unjudged     the codes of each
---     count_to p codes n       how many of codes(0) to codes(n-1) are such
---     totals_to codes n        the three totals over them; counted: with one code more (totals_more); Countable: no more
+--     count_to p codes n      how many of codes(0) to codes(n-1) are such
+--     totals_to codes n       the three totals over them; counted: with one code more (totals_more); Countable: no more
 --                             than a book may have
 --     together                their sum
---     totals_word              as an answer
+--     totals_word             as an answer
 --     totals_add_up           of the records on claims they add up
 --     count_all               all are such exactly when as many are
 --     each_code               one record of each code: one accepted, three refuted, one not judged, as an answer

@@ -1,7 +1,7 @@
 -- A test's answer, and what it tells.
 --
 --     Told P b      true where P holds, false where it does not
---     told_yes, told_no       what is told
+--     told_yes, told_no     what is told
 --     told_test     so it is what any other test of P gives
 --     told-leb      a comparison tells; told_self: a test tells whether it is true
 --     told-map      what tells one statement tells another that holds exactly when the first does

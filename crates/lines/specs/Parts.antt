@@ -1,11 +1,11 @@
 -- The parts of a line of text: what the functions of src/ answer for any bytes.
 --
---     Ends r s             r ends a front of s
+--     Ends r s              r ends a front of s
 --     place_from b s i      the first place of b in s from i on; the end where there is none
 --     past_space s i        the place after a space at i
 --     number_from n s i     the digits of s from i on, after the number n (with_digit), and the place after them
---     place_end, place_here, place_on          place_from, by what stands at i
---     number_end, number_low, number_high, number_more       number_from, likewise
+--     place_end, place_here, place_on     place_from, by what stands at i
+--     number_end, number_low, number_high, number_more     number_from, likewise
 use Rattle.std.specs.Prelude.{ℕ, suc, ◌+◌, ◌-◌, ◌*◌, ◌≤◌, ◌<◌, min, ◌≡◌, true, false, List, [], ◌∷◌, length, take, drop, get_or, leb, eqb}
 use Rattle.std.proofs.Common.{arith, drop_of_length-le}
 use Rattle.std.proofs.Math.Numerals.{add-one}

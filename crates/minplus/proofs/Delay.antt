@@ -7,7 +7,7 @@
 --     delay_accepted         so code 1 exactly when the horizon is at most 4,096 and it is so
 --     delay_not_least        and code 4 exactly when it is at most 4,096 and the deviation is less than X (delay_loose)
 --     least_wait, least_wait_one     a tick that some wait serves has a least one, and only one; deviation_one: so two
---                                    horizontal deviations are one
+--                            horizontal deviations are one
 --     no_wait                X = 0: the deviation exactly when f is at or below g throughout
 --     unserved               a tick that no wait serves: no X is a bound, and none is the deviation; flat_unserved: so
 --                            it is where g gains nothing and f(s) is above g(T')

@@ -2,12 +2,15 @@
 -- has another exact delay than the longest of its least waits.
 --
 --     well_formed_A, well_formed_B, well_formed_AB     they are well formed
---     convolution_AB, exact_delay_AB     so W4 and W8, which are accepted, hold at every tick, without end
---     outpaced_AB       and W12, which is refuted by rate, has the faster curve on its left
---     crossed_AB        Slower, which the laws of N ask, can be met as well
---     folded_AB         from tick 2 on the convolution of W4 needs three splits: v = 0 and 1, and v = 2, carried on
---     folded_BB         B with itself has the split v = 2 from tick 4 on, as no split past the half is needed
---     rising_B, waits_AB     B never falls, so the 3 of W8 is the longest wait; bounded_AB: and there had to be one
+--     convolution_AB, exact_delay_AB   so W4 and W8, which are accepted, hold at every tick, without end
+--     outpaced_AB                      and W12, which is refuted by rate, has the faster curve on its left
+--     crossed_AB                       Slower, which the laws of N ask, can be met as well
+--     folded_AB                        from tick 2 on the convolution of W4 needs three splits: v = 0 and 1, and v = 2,
+--                                      carried on
+--     folded_BB                        B with itself has the split v = 2 from tick 4 on, as no split past the half is
+--                                      needed
+--     rising_B, waits_AB               B never falls, so the 3 of W8 is the longest wait; bounded_AB: and there had to
+--                                      be one
 --     vendor_claimed, vendor_waits     the vendor's curve, which falls: the table's exact delay of flat 10 on it is 19,
 --                                      and the longest wait is 1
 use Rattle.std.specs.Prelude.{ℕ, ◌+◌, ◌-◌, ◌*◌, ◌/◌, ◌%◌, ◌≤◌, ◌<◌, min, ◌≡◌, refl}

@@ -9,8 +9,8 @@
 --     VerticalDeviation    the trade's definition of the backlog, which kind 7 claims (backlog_exact)
 --     LeastWait            how long f(s) waits until g serves it; WaitsAtMost: no tick waits longer than X, which kind
 --                          4 claims where g never falls
---     HorizontalDeviation  source document 003's definition of the delay, which kind 5 claims there
---                          (delay_means, proofs/Delay.antt)
+--     HorizontalDeviation  source document 003's definition of the delay, which kind 5 claims there (delay_means,
+--                          proofs/Delay.antt)
 --     Kind, kind_number    the seven kinds and their numbers
 --     kind_by              the kind of a number, if it is one's: exactly what kind_number says (kind_by_lem, kind_none)
 --     Claim, kind_of       a claim over its curves, and its kind

@@ -6,7 +6,7 @@
 --                         one of them
 --     Crossed             d'*A - d*B <= (c'*d - c*d')*n, with each A = p - q and B = p' - q' put in and what is
 --                         subtracted moved across; SplitCrossed: the same with A and B increased
---     minimum_n_law        N of a minimum; convolution_n_law: of a convolution, at T = 0 too
+--     minimum_n_law       N of a minimum; convolution_n_law: of a convolution, at T = 0 too
 use Rattle.std.specs.Prelude.{ℕ, zero, suc, ◌+◌, ◌-◌, ◌*◌, ◌/◌, ◌≤◌, ◌<◌, min, max, ◌≡◌, ◌↔◌}
 use Rattle.std.proofs.Math.Path.{refl, sym}
 use Rattle.std.proofs.Common.{ap, ◌∙◌, subst, arith, sub-add_cancel, add-sub_of_le, div-lt_iff_lt-mul, mul-le-mul_left, le_antisymm, le_refl}

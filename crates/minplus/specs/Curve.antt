@@ -6,7 +6,7 @@
 --
 --     Curve                     rank T, period d, increment c, listed values
 --     max_listed, max_units     the limits
---     count f, listed_at f n     T + d, and the n-th listed value
+--     count f, listed_at f n    T + d, and the n-th listed value
 --     Rising f                  the two rules by which a curve never falls: in its list, and over the seam where one
 --                               period meets the next; Rising.antt: they hold exactly when its value never falls
 --     WellFormed f              every limit of that paragraph, and Rising; well_formed f is the same as a test that

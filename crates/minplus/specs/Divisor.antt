@@ -6,7 +6,7 @@
 --     gcd a b          Euclid's rule: gcd_zero, gcd-step
 --     gcd-left, gcd_right, gcd-greatest     it divides both, and each common divisor divides it
 --     lcm a b          a / gcd a b * b
---     lcm-left, lcm_right, lcm-least        both divide it, and it divides each common multiple; lcm_comm
+--     lcm-left, lcm_right, lcm-least     both divide it, and it divides each common multiple; lcm_comm
 --     lcm_positive, lcm_of_0, lcm_at_least     it is 0 only where a number is, and else not below either
 --     lcm-min          cut off at any number, it is the same from a first number that is cut off there too
 use Rattle.std.specs.Prelude.{ℕ, zero, suc, ◌-◌, ◌*◌, ◌/◌, ◌%◌, ◌≤◌, ◌<◌, min, ◌≡◌, refl, Bool, true, false, ltb}

@@ -4,7 +4,7 @@
 -- as sound) is pinned by these rows alone, and tests/definitions tries such formulas.
 --
 --     table, ground     what is asked and the due answer; the test: every answer is the due one
---     A, B, conv_ab      the curves of W4 and W8
+--     A, B, conv_ab     the curves of W4 and W8
 --     ten, vendor       what request A2 is about: a flat arrival, and a service that falls
 use Rattle.std.specs.Prelude.{ℕ, ◌+◌, replicate, Bool, false, true, List, [], ◌∷◌, map, ◌≡◌, refl}
 use Rattle.minplus.specs.Claim.{Claim, at_most, backlog, bounds, convolution, delay, equals, exactly, kind_number, kind_of, minimum, sum, well_formed_claim}

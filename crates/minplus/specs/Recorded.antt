@@ -1,7 +1,7 @@
 -- What a record tells of its verdict.
 --
 --     verdict_by code r     the verdict of a record with this code (verdict-by)
---     record_one           no two verdicts have the same record, whatever the ticks tried
+--     record_one            no two verdicts have the same record, whatever the ticks tried
 use Rattle.std.specs.Prelude.{ℕ, ◌≡◌, refl, true, false, eqb}
 use Rattle.std.proofs.Common.{sym, ap, ◌∙◌}
 use Rattle.minplus.specs.Verdict.{Record, Verdict, accepted, not_judged, not_least, record_with, refuted_at, refuted_by_rate}

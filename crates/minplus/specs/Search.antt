@@ -6,12 +6,12 @@
 --     least h k         the least of h(0) to h(k): a lower bound of them (least_lower) that is one of them
 --                       (least_attained)
 --     greatest h k      the greatest of them, likewise (greatest_upper, greatest_attained)
---     first_below p k    the first n < k with p(n), if there is one; IsFirst says so (first_below_lem); first_nowhere,
+--     first_below p k   the first n < k with p(n), if there is one; IsFirst says so (first_below_lem); first_nowhere,
 --                       first_at: the answer from what it would find
---     all_below p k      p(n) for every n < k (all_below_lem)
+--     all_below p k     p(n) for every n < k (all_below_lem)
 --     both_true         two tests; true_unless, false_unless: a test that can't have the other answer
 --     numbered number l k     the first of l that has the number k: it has it (numbered-so); none, if none has it
---                             (numbered_none)
+--                       (numbered_none)
 use Prim.Native.Nat.{ℕ, zero, suc, ◌-◌, ◌≤◌, ◌<◌, min, max}
 use Rattle.std.specs.Prelude.{◌≡◌, Bool, ◌&&◌, ◌↔◌, ◌⊎◌}
 use Rattle.std.proofs.Math.Path.{refl, ap, subst}

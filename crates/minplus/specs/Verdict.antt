@@ -7,7 +7,7 @@
 --     left_at, right_at    the two values that the record of a refuted tick holds
 --     breaks, tried        whether a tick breaks the rule; how many ticks, from 0 on, are tried; first_break: the first
 --                          of them that does
---     by_rate, less_holds      the tests of codes 3 and 4
+--     by_rate, less_holds  the tests of codes 3 and 4
 --     codes_in_order, verdict     the codes in their order
 --     record_of            the Record of a verdict on a claim: code, tick, left and right value (record_with), and how
 --                          many ticks were tried for it (ticks_tried); record_on: of the verdict that is due

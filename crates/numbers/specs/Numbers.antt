@@ -3,7 +3,7 @@
 --     number_after      a list of bytes as one number, after a number that stands before it
 --     number_at w s i   the number in the w bytes from place i of s; 0 where they are not all there
 --     number_whole, number_torn     number_at, by whether they are all there
---     number_split     w + v bytes are w bytes and v bytes after them (after-append); number_byte: one byte
+--     number_split      w + v bytes are w bytes and v bytes after them (after-append); number_byte: one byte
 use Rattle.std.specs.Prelude.{ℕ, ◌+◌, ◌*◌, ◌^◌, ◌≤◌, ◌<◌, ◌≡◌, refl, true, false, List, [], ◌∷◌, ◌++◌, length, take, drop, get_or, leb}
 use Rattle.std.proofs.Common.{ap, ◌∙◌, arith, zero-add, length-drop, take-add, drop-drop, drop-cons, length-take-le, le-leb}
 use Rattle.std.proofs.Math.Nat.{pow-succ'}

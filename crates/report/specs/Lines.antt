@@ -2,11 +2,11 @@
 --
 --     part w n            words and the number after them; last_part: and the end of the line
 --     claim_line, total_line, certified_line, refused_line     the lines; claim_lines: those of the first claims
---     verdict_words        a claim's line after `claim K`, by its record's numbers; words_in: by its record; refuted_at:
+--     verdict_words       a claim's line after `claim K`, by its record's numbers; words_in: by its record; refuted_at:
 --                         code 2 (words_refuted)
---     report_of            the whole text
---     report_in            the same where the lent bytes have room for it, else nothing
---     max_line, max_words   the length of the longest line, and of the longest verdict_words
+--     report_of           the whole text
+--     report_in           the same where the lent bytes have room for it, else nothing
+--     max_line, max_words     the length of the longest line, and of the longest verdict_words
 --     TotalsFit           what the totals of an answer can be
 --     refuted_short, total_short     how many digits the numbers of a line can have
 --     report_short, report_refused, report_judged     report_in, by its tests

@@ -3,11 +3,11 @@
 --     bytes t            a quoted text, a byte for each character
 --     digit d            the byte of a digit
 --     decimal n          a number's digits in base ten, as few as hold it
---     value_of n s        digits as one number, after a number that stands before them
+--     value_of n s       digits as one number, after a number that stands before them
 --     decimal_digit, decimal-more     decimal, by whether one digit holds the number
 --     decimal_back       read again the digits are the number; decimal-first: no 0 stands before them
 --     decimal_some, decimal_short     one digit or more; at most k where the number is below 10 ^ k
---     tenth_less, length_more         a number without its last digit, and how long it is
+--     tenth_less, length_more     a number without its last digit, and how long it is
 use Rattle.std.specs.Prelude.{ℕ, zero, suc, ◌+◌, ◌-◌, ◌*◌, ◌/◌, ◌%◌, ◌^◌, ◌≤◌, ◌<◌, ◌≡◌, refl, true, false, List, [], ◌∷◌, ◌++◌, length, get_or, ltb}
 use Prim.Native.Char.{code}
 use Prim.Native.String.{String, [] as no_more, ◌∷◌ as ◌then◌}

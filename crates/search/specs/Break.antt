@@ -1,16 +1,17 @@
 -- The first of a claim's tried ticks that breaks its rule.
 --
---     first_of_tried c tried    the first of so many ticks that breaks the rule, with its two values, and the ticks compared
---     break_of c          the same of the ticks that are tried
+--     first_of_tried c tried     the first of so many ticks that breaks the rule, with its two values, and the ticks
+--                        compared
+--     break_of c         the same of the ticks that are tried
 --     Judgeable          a claim whose curves are lent, with its horizon, which is within the limit
 --     Searched, LessAsked     what the searches of kinds 1 to 3 are given, and what is given where X-1 is asked for
---     later_by, more_by    how many ticks later the right value of kinds 4 to 7 is taken, and what is added to it
+--     later_by, more_by  how many ticks later the right value of kinds 4 to 7 is taken, and what is added to it
 --                        (allowed-by)
---     first_above         the first tick at which f is above what g is so many ticks later, and so many units more
---                        (allowed_by); Comparable: what that search needs in order that all fits. A bound is searched so
---                        (bound_comparable, above_first)
+--     first_above        the first tick at which f is above what g is so many ticks later, and so many units more
+--                        (allowed_by); Comparable: what that search needs in order that all fits. A bound is searched
+--                        so (bound_comparable, above_first)
 --     first_loosely      of a bound, whether it is claimed to be the least or not
---     is_nowhere          no tried tick breaks it
+--     is_nowhere         no tried tick breaks it
 --     less_none          X-1 is not asked for where X is 0,
 --     less_nowhere       and elsewhere it is a bound if no tried tick breaks it
 use Prim.Native.Nat.{ℕ, suc, ◌+◌, ◌-◌, ◌≤◌, ◌<◌}

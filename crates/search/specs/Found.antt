@@ -1,8 +1,8 @@
 -- What a search over a claim's ticks comes to: the first tick that breaks the rule, with its left and its right value,
 -- and how many ticks were compared, from 0 on.
 --
---     compared_of      the first of the tried ticks that passes a test, with the two values there (at_tick), and how many
---                     ticks there are up to it; where none passes, all that are tried (compared_from)
+--     compared_of     the first of the tried ticks that passes a test, with the two values there (at_tick), and how
+--                     many ticks there are up to it; where none passes, all that are tried (compared_from)
 --     found_at        it is n, if no tick before n passes and n does
 --     found_nowhere   there is none, if no tried tick passes
 --     ticks_few       no more are compared than are tried

@@ -1,6 +1,6 @@
 -- Curves that are lent, as the search of kind 3 has them: their values in the lent numbers.
 --
---     work_of f g s            f's values up to the settled tick at the front of s, and g's listed ones in their part
+--     work_of f g s           f's values up to the settled tick at the front of s, and g's listed ones in their part
 --     apart_foldable          these can be searched,
 --     apart_first             and what is found is the first tick at which h differs from the convolution of f and g
 use Rattle.std.specs.Prelude.{ℕ, ◌+◌, ◌-◌, ◌≤◌, ◌<◌, min, ◌≡◌, refl, List, Bool, true, length, get_or, take, drop, eqb}

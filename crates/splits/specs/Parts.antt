@@ -1,9 +1,10 @@
 -- The parts of the numbers that the search of kind 3 is lent, and what stands in them at a tick.
 --
---     right_part, near_part, last_part, carried_part, work_room     where the parts begin, and how many numbers there are
---     listed_over              so many of a function's values in a part of a list (part_length): listed-length,
+--     right_part, near_part, last_part, carried_part, work_room     where the parts begin, and how many numbers there
+--                             are
+--     listed_over             so many of a function's values in a part of a list (part_length): listed-length,
 --                             listed_before, listed_inside
---     Carries, carried_in      one number of the last part from the others, and what it asks
+--     Carries, carried_in     one number of the last part from the others, and what it asks
 --     Kept N L C t e          what stands in the numbers at a tick: values of N, and from the tick t on of L and, for
 --                             one round of e ticks, of C: kept_none, kept_near, kept_last, kept_skip, kept_early,
 --                             kept_carried: as it begins, and after each store or where there is none

@@ -3,13 +3,13 @@
 -- Folded.antt of the crate minplus has the laws behind it: those with v below T'+d' are enough, and of a curve with
 -- itself those with v up to n/2.
 --
---     reach_of itself n        how far v goes, never past n (reach_inside)
---     late_of itself t         the first tick at which it comes to t (late_first, late_inside)
+--     reach_of itself n       how far v goes, never past n (reach_inside)
+--     late_of itself t        the first tick at which it comes to t (late_first, late_inside)
 --     near_of, last_of, carried_of     the least over the splits with v < T', over those with T' <= v < T'+d', and over
 --                             all from T' on
 --     OneCurve f g            f and g are one curve: what is asked where it is said to be a curve with itself
---     near_gains, last_gains, late_soon     one period before the settled tick the first two gain c over d, and
---                             splits from T' on are tried
+--     near_gains, last_gains, late_soon     one period before the settled tick the first two gain c over d, and splits
+--                             from T' on are tried
 --     due_early, due_late     the convolution from these
 use Rattle.std.specs.Prelude.{ℕ, ◌+◌, ◌-◌, ◌*◌, ◌/◌, ◌≤◌, ◌<◌, min, ◌≡◌, refl, Bool, true, false, ◌↔◌}
 use Rattle.std.proofs.Common.{sym, subst, arith}

@@ -1,7 +1,7 @@
 -- The search of kind 3: what a tick makes of the splits that are tried.
 --
---     left_curve, right_curve   f and g, of their numbers and of what stands at the front and from right_part on
---     settled_of f g           from this tick on no split is tried
+--     left_curve, right_curve     f and g, of their numbers and of what stands at the front and from right_part on
+--     settled_of f g          from this tick on no split is tried
 --     Foldable                the values of f stand there up to that tick, and g's listed ones; over every split of a
 --                             tried tick the sum fits 32 bits; and a curve with itself is one
 --     Holds                   what stands in the other parts

@@ -1,16 +1,16 @@
 -- What the code answers, in the words of the crate minplus.
 --
---     verdict_of, numbers_of     the verdict, and the numbers of a record
---     decided_of                the record of a verdict and the ticks tried for it; no two of the code's have the same
+--     verdict_of, numbers_of   the verdict, and the numbers of a record
+--     decided_of               the record of a verdict and the ticks tried for it; no two of the code's have the same
 --                              one (decided_one)
---     judged_of                 the answer on a claim: such a record, or none
+--     judged_of                the answer on a claim: such a record, or none
 --     judgement                what it has to be: none for a claim that is not well formed (judgement_none), else its
 --                              record (judgement_some)
 --     record_far               which is "not judged" beyond the limit, with no tick tried,
 --     ordered, record_near     and within it goes by what the tests find, in the order of the codes, with as many ticks
 --                              as the search has compared
---     later_code                the codes after the first break (later_is); IsLater, LaterAsked: of two curves, and
---                              what they ask (later_asked)
+--     later_code               the codes after the first break (later_is); IsLater, LaterAsked: of two curves, and what
+--                              they ask (later_asked)
 use Rattle.std.specs.Prelude.{ℕ, ◌≤◌, ◌<◌, ◌≡◌, refl, Bool, true, false}
 use Rattle.std.proofs.Common.{sym, ap, ap₂, ◌∙◌, lt-ltb, le-ltb}
 use Rattle.std.proofs.Math.Option.{Option, none, some}

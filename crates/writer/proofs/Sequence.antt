@@ -1,14 +1,13 @@
 -- Calls of a writer one after the other, as specs/Sequence defines them: what is proved of them.
 --
---     any_calls        what holds after any calls whatever (Written). So:
---         closed_sound     what a closed writer has written is a sound book, and says what the calls said
---         open_ends        what an open one has written lacks only the end; begins_sound: and is always the beginning
---                          of a sound book
---         closed_stays     once closed, it stays
---     calls_write      a book within the limits is written by its calls, if it has room: all are taken, and they leave
---                      its bytes and no others
+--     any_calls     what holds after any calls whatever (Written). So: closed_sound     what a closed writer has
+--         written is a sound book, and says what the calls said open_ends        what an open one has written lacks
+--         only the end; begins_sound: and is always the beginning of a sound book closed_stays     once closed, it
+--         stays
+--     calls_write     a book within the limits is written by its calls, if it has room: all are taken, and they leave
+--         its bytes and no others
 --     written_and_read, read_and_written     and so read again; and a book that was read is written as it was
---     closed_same      any calls that leave a closed book leave what its own calls do
+--     closed_same     any calls that leave a closed book leave what its own calls do
 --     step_refused, step_taken     one call, by its answer
 use Prim.Native.Nat.{ℕ, ◌+◌, ◌≤◌, ◌<◌}
 use Rattle.std.specs.Prelude.{◌≡◌, refl, Bool, not, take, drop, eqb}

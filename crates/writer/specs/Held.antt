@@ -2,11 +2,11 @@
 --
 --     head_put             tag and length (head_bytes)
 --     version_put, curve_put, claim-put, end-put     a whole field, from what each step left; curve_room: a curve's
---                                                    values have room then
+--                          values have room then
 --     version_size, curve_size, claim_size, end_size     how many bytes it has
 --     Filling              the values of a curve, as far as they are written: filling_none, filling_more, filling_all;
 --                          filling_length: as many bytes as before
---     fault_is, moved_by_lem   the tests and the new state, by the field's size; taken_return: what is returned then
+--     fault_is, moved_by_lem     the tests and the new state, by the field's size; taken_return: what is returned then
 --                          (refused_return: proofs/Tests)
 use Prim.Native.Nat.{ℕ, ◌+◌, ◌*◌, ◌≤◌, ◌<◌}
 use Rattle.std.specs.Prelude.{◌≡◌, Bool, true, false, take, get_or, leb}

@@ -4,10 +4,10 @@
 --     Desk             where the writing of a book stands: the writer, the lent bytes, and what the calls that were
 --                      taken have said (entered, entered_on)
 --     step, after_calls     one call and a list of them, by Writing's `called` and `written`; opened, reached: from a
---                          writer that has not begun
---     text_in           the bytes before the writer's place; BookSays: they are a sound book that says this
+--                      writer that has not begun
+--     text_in          the bytes before the writer's place; BookSays: they are a sound book that says this
 --     AllTaken         no call of the list is refused
---     calls_for         the calls that write a book: begin, each curve, each claim, close
+--     calls_for        the calls that write a book: begin, each curve, each claim, close
 --     Stage            what is written and what is said go together: nothing yet, a book without its end, a book
 --     Written          what holds after any calls whatever, of a writer that stands after a text (standing, counted)
 --     w8_stands, w8_short     document 01's book, computed, with room and with one byte too few

@@ -4,10 +4,11 @@
 -- call that is taken writes the field's bytes after those before and no others. An unknown kind is 10. Closed books
 -- take nothing more: 3."
 --
---     Call             the four calls with their arguments; call_tag, call_content, call_field: the field that one writes
+--     Call             the four calls with their arguments; call_tag, call_content, call_field: the field that one
+--                      writes
 --     fresh            a writer before it has begun
---     call_fault        why a call is refused, in that order: the first of order_fault, argument_fault and room_fault
---     moved_by          where a writer stands after a call that is taken (version_of, closes)
+--     call_fault       why a call is refused, in that order: the first of order_fault, argument_fault and room_fault
+--     moved_by         where a writer stands after a call that is taken (version_of, closes)
 --     called           the answer and the writer after it
 --     written          every byte of the buffer after it
 --     Passes           a call is taken exactly when (proofs/Tests: passes)

@@ -1,7 +1,7 @@
 -- A writer's state as one number, for C.
 --
---     state_of        bytes written + 2^16 * claims + 2^32 * curves + 2^40 * version + 2^47 if it is closed
---     writer_of       the writer of any number: one with a bit above those, or with more bytes than a book can have,
+--     state_of       bytes written + 2^16 * claims + 2^32 * curves + 2^40 * version + 2^47 if it is closed
+--     writer_of      the writer of any number: one with a bit above those, or with more bytes than a book can have,
 --                    takes nothing more (takes_nothing)
 --     answered       a call's answer as C gets it: "A writer's refusal is a number without a place", and the state
 --                    stays (answered_on)

@@ -1,7 +1,7 @@
 -- `splits::first_split` meets its contract. A turn of the outer loop has found nothing yet, and `Folds` says where it
 -- stands; both inner loops have the invariant `LeastUpTo`. What stands in the lent numbers once near, and once last, is
--- stored is `near_turn` and `last_turn`; where the ways through the turn meet, `turn` says what is due, what stands, and
--- the turn.
+-- stored is `near_turn` and `last_turn`; where the ways through the turn meet, `turn` says what is due, what stands in
+-- the numbers, and where the round of what is carried stands.
 use Prim.Native.Nat.{ℕ, ◌+◌, ◌-◌, ◌≤◌, ◌<◌, min, max}
 use mathlib.Core.Path.{◌≡◌, refl, sym, ap, subst, ◌∙◌}
 use mathlib.Core.Bool.{Bool}
