@@ -13,7 +13,8 @@ use Rattle.book.specs.Reading.{Contents, sound, read_book}
 use Rattle.book.specs.Sound.{sound_book}
 use Rattle.judge.specs.Answer.{accepted_in, refuted_in, unjudged_in, record_size, record_in}
 use Rattle.judge.specs.Run.{Room, answer_of, buffer_of, buffer_on, claim_at, verdict_at, record_at, run_sound}
-use Rattle.judge.specs.Inspector.{Judged, record_back}
+use Rattle.judge.proofs.Inspector.{record_back}
+use Rattle.judge.specs.Inspector.{Judged}
 use Rattle.report.specs.Lines.{part, verdict_words, claim_line, claim_lines, total_line, certified_line, report_judged}
 use Rattle.claimbook.specs.Answered.{blank, room, text_for, verdict_line, verdict_lines, said-so, roomy}
 

@@ -6,30 +6,27 @@
 --     said, verdict_line  a verdict as document 01's words, and the line of claim k; verdict_lines: those of the first
 --                         claims
 --     text_refused        a refused book: its refusal's number and its place, on one line
---     text_judged         a sound book: the verdict on each claim, the totals, and whether it is certified
+--     said-so, roomy      the words are those of the claim's record; the lines have room
 --
--- Any book is one or the other: `inspected` of the judge.
-use Prim.Native.Nat.{ℕ, zero, suc, ◌+◌, ◌*◌, ◌≤◌, ◌<◌}
-use Rattle.std.specs.Prelude.{◌≡◌, length, replicate}
-use Rattle.std.proofs.Math.Path.{refl, ap, ap₂}
+-- The law of a sound book, text_judged, stands in proofs/Texts.antt. Any book is refused or sound: `inspected` of the
+-- judge.
+use Prim.Native.Nat.{ℕ, zero, suc, ◌+◌, ◌*◌, ◌≤◌}
+use Rattle.std.specs.Prelude.{◌≡◌, replicate}
+use Rattle.std.proofs.Math.Path.{refl, ap₂}
 use Rattle.std.proofs.Common.{◌∙◌, arith}
 use mathlib.Core.List.{List, [], ◌++◌}
 use Rattle.std.proofs.Math.Option.{Option, none, some}
-use Rattle.std.proofs.Math.ListN.{length-replicate}
 use Rattle.minplus.specs.Claim.{Claim}
-use Rattle.minplus.specs.Verdict.{Record, Verdict, accepted, refuted_at, refuted_by_rate, not_least, not_judged, record_with, ticks_tried, verdict}
+use Rattle.minplus.specs.Verdict.{Verdict, accepted, refuted_at, refuted_by_rate, not_least, not_judged, record_with, ticks_tried, verdict}
 use Rattle.content.specs.Refusals.{number_of}
 use Rattle.field.specs.Steps.{max_claims}
-use Rattle.book.specs.Reading.{Contents, sound, read_book}
-use Rattle.book.specs.Sound.{sound_book}
-use Rattle.judge.specs.Answer.{accepted_in, refuted_in, unjudged_in, claims_in, record_size, record_in}
+use Rattle.judge.specs.Answer.{claims_in, record_size}
 use Rattle.judge.specs.Claims.{record_for, verdict_for}
-use Rattle.judge.specs.Run.{Room, answer_of, buffer_of, buffer_on, claim_at, verdict_at, record_at, run_sound}
-use Rattle.judge.specs.Inspector.{Judged, Refused}
-use Rattle.judge.proofs.Inspector.{record_back}
+use Rattle.judge.specs.Run.{answer_of, buffer_of}
+use Rattle.judge.specs.Inspector.{Refused}
 use Rattle.report.specs.Text.{bytes}
 use Rattle.report.specs.Lines as lines
-use Rattle.report.specs.Lines.{max_line, part, verdict_words, claim_line, claim_lines, total_line, certified_line, refused_line, report_in, report_refused, report_judged}
+use Rattle.report.specs.Lines.{max_line, part, verdict_words, claim_line, claim_lines, total_line, certified_line, refused_line, report_in, report_refused}
 
 abbrev pub blank : List ℕ
 blank = replicate (record_size * max_claims) 0
