@@ -28,7 +28,7 @@ fn named(line: &str) -> Option<(bool, &str)> {
         (false, line)
     };
     let rest = rest.strip_prefix("extern \"C\" ").unwrap_or(rest).strip_prefix("fn ")?;
-    Some((public, rest.split('(').next()?))
+    Some((public, rest.split(['(', '<']).next()?))
 }
 
 /// The type that an `impl` is for.
