@@ -4,7 +4,7 @@
 --                           does not
 --     filled_on             an array that is filled so far is filled further, where 0 is stored
 --     part_number           a number in a part of some bytes that it fills
---     left-over             a sum is above a limit exactly when one part is above what the other leaves of it
+--     left_over             a sum is above a limit exactly when one part is above what the other leaves of it
 use Prim.Native.Nat.{ℕ, zero, suc, ◌+◌, ◌-◌, ◌≤◌, ◌<◌}
 use mathlib.Core.Path.{◌≡◌, refl, sym, ap, ◌∙◌}
 use mathlib.Core.Bool.{Bool, true, false, ◌&&◌}

@@ -6,7 +6,7 @@ use crate::steps::field_at;
 use crate::{Field, State};
 
 // Any bytes as a book, and any state: where the reader stands in it, and what came before.
-#[derive(Drop)]
+#[derive(Clone, Copy)]
 pub struct Reader<'a> {
     pub book: &'a [u8],
     pub state: State,

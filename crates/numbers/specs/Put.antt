@@ -4,7 +4,7 @@
 --     put_whole s at t    the same where all of t has room (put_fits), else s as it was (put_short)
 --     bytes_of w n        the w bytes of a number, high byte first; of a larger number its last w (length-bytes: they
 --                         are w; read again they are the number, and they may be written from the last one on:
---                         proofs/Put)
+--                         proofs/HighFirst)
 --     put-nothing, put_last, put-put     nothing, one byte more, one after the other
 --     length-put, drop-put     as many bytes as before, and those after it as they were
 use Prim.Native.Nat.{ℕ, zero, suc, ◌+◌, ◌/◌, ◌%◌, ◌≤◌, ◌<◌}

@@ -1,4 +1,5 @@
-// The entries for C, all in one archive. include/zurmakida.h says what a caller has to know.
+// What C calls, with a writer's state as one number. zurmakida_c exports it; include/zurmakida.h says what a caller has
+// to know.
 #![tactic(auto)]
 
 ghost use Rattle.std.specs.Prelude.{◌≡◌};
@@ -22,31 +23,27 @@ pub struct BookCall {
     pub state: u64,
 }
 
-#[unsafe(no_mangle)]
-pub extern "C" fn judge(book: &[u8], verdicts: &mut [u8]) -> u64
+pub fn judge(book: &[u8], verdicts: &mut [u8]) -> u64
     ensures value { result ≡ answer_of book.now verdicts.old }
     ensures verdicts_after { verdicts.new ≡ buffer_of book.now verdicts.old }
 {
     judge::judge(book, verdicts)
 }
 
-#[unsafe(no_mangle)]
-pub extern "C" fn curve_value(book: &[u8], curve: u64, tick: u64) -> CurveValue
+pub fn curve_value(book: &[u8], curve: u64, tick: u64) -> CurveValue
     ensures { result ≡ told (value_asked book.now curve tick) }
 {
     values::curve_value(book, curve, tick)
 }
 
-#[unsafe(no_mangle)]
-pub extern "C" fn book_begin(state: u64, book: &mut [u8]) -> BookCall
+pub fn book_begin(state: u64, book: &mut [u8]) -> BookCall
     ensures value { result ≡ answered state (called (begin 1) (writer_of state) book.old) }
     ensures book_after { book.new ≡ written (begin 1) (writer_of state) book.old }
 {
     answered(state, calls::begin(writer_of(state), book))
 }
 
-#[unsafe(no_mangle)]
-pub extern "C" fn book_add_curve(
+pub fn book_add_curve(
     state: u64,
     book: &mut [u8],
     rank: u64,
@@ -63,8 +60,7 @@ pub extern "C" fn book_add_curve(
     )
 }
 
-#[unsafe(no_mangle)]
-pub extern "C" fn book_add_claim(
+pub fn book_add_claim(
     state: u64,
     book: &mut [u8],
     kind: u64,
@@ -81,8 +77,7 @@ pub extern "C" fn book_add_claim(
     )
 }
 
-#[unsafe(no_mangle)]
-pub extern "C" fn book_close(state: u64, book: &mut [u8]) -> BookCall
+pub fn book_close(state: u64, book: &mut [u8]) -> BookCall
     ensures value { result ≡ answered state (called close (writer_of state) book.old) }
     ensures book_after { book.new ≡ written close (writer_of state) book.old }
 {
