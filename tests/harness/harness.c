@@ -59,7 +59,7 @@ static void on_fault(int number) {
     fail("a byte was touched that was not lent, or written that was lent to be read");
 }
 
-/* ---- bytes compared, in words: the emulator is slow with bytes one by one */
+/* ---- bytes compared, in words */
 
 static uint64_t word(const uint8_t *bytes) {
     uint64_t word;
