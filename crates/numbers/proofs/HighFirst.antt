@@ -1,5 +1,6 @@
 -- A number's bytes, high byte first: what rests on their order.
 --
+--     after_byte, room_for_byte     a byte more is read, and the number has room in so many bytes
 --     put-bytes       a number's bytes, written from the last one on
 --     bytes_back      a number's bytes, read again, are the number
 --     bytes_of_lem    a number's bytes are below 256
@@ -14,6 +15,14 @@ use Rattle.numbers.specs.Lists.{forall_at, forall_more}
 use Rattle.numbers.specs.Numbers.{number_at, number_after, after-append, number_whole, number_split, number_byte}
 use Rattle.numbers.specs.Put.{put, put_last, bytes_of, length-bytes}
 use Rattle.numbers.specs.Back.{Byte, Bytes, bytes_none, length_then, number_on}
+
+-- a byte more is read, and the number still has room in so many bytes
+pub after_byte : (k : ℕ) (s : List ℕ) → k < length s → number_after 0 (take (k + 1) s) ≡ number_after 0 (take k s) * 256 + get_or s k 0
+unfolding number_after
+after_byte k s lt = rw (add-one k, take-suc s k 0 lt) (after-append 0 (take k s) (get_or s k 0 ∷ []))
+
+pub room_for_byte : (k n b : ℕ) → n < 256 ^ k → b < 256 → n * 256 + b < 256 ^ (k + 1)
+room_for_byte k n b lt byte = rw (add-one k, pow-succ' 256 k) (omega (arith, lt, byte))
 
 -- the last byte first, for a loop that goes down
 pub put-bytes : (s : List ℕ) (at w n : ℕ) → 0 < w → at + w ≤ length s
