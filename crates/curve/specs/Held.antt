@@ -1,7 +1,7 @@
 -- The curve that the code's values stand for.
 --
---     held_as, steps_in, curve_of  numbers and an array of rises as a form; those of a struct; their curve. What stands
---                                  in the array from T+d on counts for nothing (form_same)
+--     held_as, steps_of, steps_in  numbers and an array of rises as a form; those that are lent; those of a working copy
+--     curve_of                     their curve. What stands in the array from T+d on counts for nothing (form_same)
 --     rates_of                     a curve of a form's numbers that lists nothing: rates depend on no value
 --     held_over, form_over         a curve with its rises in the place of its values, and its other numbers
 --     padded, holding              a list in the working array (padded-listed: F(0) to F(k-1)), and a curve in the
@@ -22,12 +22,17 @@ use Rattle.minplus.specs.Curve as C
 use Rattle.minplus.specs.Curve.{count, listed_at}
 use Rattle.curve.specs.declared.Curve.{Curve}
 use Rattle.curve.specs.declared.Form.{Form}
+use Rattle.curve.specs.declared.Held.{Held}
 use Rattle.curve.specs.Filled.{list_of, filled, length-list_of, list_of_at, list_of_same, filled-length, filled_at, filled_same, over_at, over-length}
 use Rattle.curve.specs.Steps.{Steps, reached, risen_to, closes, listed_from, curve_from, sum_same}
-use Rattle.curve.specs.Rises.{rise_of, rises_over, rise_same, steps_of, steps_back, steps_tell}
+use Rattle.curve.specs.Rises as R
+use Rattle.curve.specs.Rises.{rise_of, rises_over, rise_same, steps_back, steps_tell}
 
 abbrev pub held_as : Form → List ℕ → Steps
 held_as form rises = record { rank = form.rank.0; period = form.period.0; increment = form.increment; first = form.first; rises = rises }
+
+abbrev pub steps_of : Held → Steps
+steps_of f = held_as f.form f.rises.now
 
 abbrev pub rates_of : Form → C.Curve
 rates_of form = record { rank = form.rank.0; period = form.period.0; increment = form.increment; listed = [] }
@@ -90,7 +95,7 @@ padded-listed F k =
 
 module _ (f : C.Curve) where
   -- of T+d values that have room
-  holding_form : 1 ≤ f.period → length f.listed ≡ count f → count f ≤ C.max_listed → curve_of (holding f) ≡ curve_from (steps_of f)
+  holding_form : 1 ≤ f.period → length f.listed ≡ count f → count f ≤ C.max_listed → curve_of (holding f) ≡ curve_from (R.steps_of f)
   holding_form positive whole fits =
       let array : List ℕ = padded f.listed in
       let g : C.Curve = record { rank = f.rank; period = f.period; increment = f.increment; listed = array } in
@@ -101,14 +106,13 @@ module _ (f : C.Curve) where
       ap (λ (v : ℕ). curve_from (record { rank = f.rank; period = f.period; increment = f.increment; first = v; rises = rises_over g }))
       (same 0 (omega arith))
       ∙ form_same (record { rank = record { 0 = f.rank }; period = record { 0 = f.period }; increment = f.increment; first = listed_at f 0 })
-      (rises_over g) (steps_of f).rises
+      (rises_over g) (R.steps_of f).rises
       (λ n lt.
       over_at (rise_of g) (min (count f) (length array)) array n (omega (arith, room, fits))
       ∙ rise_same f.rank f.period f.increment array f.listed positive same n lt ∙ sym (list_of_at (rise_of f) (count f) n lt))
 
   -- what is held of any curve fills the working array
   pub holding-length : length (holding f).rises ≡ C.max_listed
-  unfolding rises_over
   holding-length =
       let array : List ℕ = padded f.listed in
       let room : length array ≡ C.max_listed = filled-length (λ n. get_or f.listed n 0) C.max_listed (min (length f.listed) C.max_listed) (omega arith) in

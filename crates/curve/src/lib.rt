@@ -3,8 +3,8 @@
 #![tactic(auto)]
 
 ghost use Rattle.std.specs.Prelude.{◌≡◌};
-ghost use Rattle.curve.specs.Held.{held_over};
-ghost use Rattle.curve.specs.Kinds.{named_by, limited_by, within};
+ghost use Rattle.curve.specs.Held.{held_over, steps_in, steps_of};
+ghost use Rattle.curve.specs.Kinds.{named_by, within};
 
 pub mod listed;
 pub mod rates;
@@ -14,15 +14,15 @@ pub mod walks;
 use crate::listed::hold;
 
 // A count of ticks. A count of units can't be passed for it.
-#[derive(Clone, Copy)]
+#[derive(Clone, Copy, PartialEq, Eq, PartialOrd, Ord)]
 pub struct Ticks(pub u32);
 
 // A count of data units. A value at any tick that `Ticks` holds fits.
-#[derive(Clone, Copy)]
+#[derive(Clone, Copy, PartialEq, Eq, PartialOrd, Ord)]
 pub struct Units(pub u64);
 
 // What is held of a curve beside its rises: T, d, c and the first value.
-#[derive(Clone, Copy)]
+#[derive(Clone, Copy, PartialEq, Eq)]
 pub struct Form {
     pub rank: Ticks,
     pub period: Ticks,
@@ -56,6 +56,22 @@ impl Curve {
         let form = hold(rank, period, increment, &mut rises);
         Curve { form, rises }
     }
+
+    pub fn held(&self) -> Held<'_>
+        ensures { steps_of result ≡ steps_in self.now }
+    {
+        Held {
+            form: self.form,
+            rises: &self.rises,
+        }
+    }
+}
+
+// A curve as it is lent: it is passed by value, and its rises are not copied.
+#[derive(Clone, Copy)]
+pub struct Held<'a> {
+    pub form: Form,
+    pub rises: &'a [u32],
 }
 
 // Kinds 1 to 3: what the claimed curve is said to be.
@@ -81,10 +97,9 @@ pub enum Claim {
     Exactly(Deviation),
 }
 
-// What a kind's number and an X make.
-#[derive(Clone, Copy)]
-pub enum Named {
-    Claim(Claim),
+// Why a kind's number and an X make no claim.
+#[derive(Clone, Copy, PartialEq, Eq)]
+pub enum ClaimError {
     UnknownKind,
     XTooLarge,
 }
@@ -95,42 +110,28 @@ impl Claim {
     pub const MAX_HORIZON: usize = 4_096;
 
     // Of numbers of any size. Kinds 1 to 3 have no X: what is passed for it is not looked at.
-    pub fn new(kind: u64, x: u64) -> Named
+    pub fn new(kind: u64, x: u64) -> Result<Claim, ClaimError>
         ensures { result ≡ named_by kind x }
     {
-        let amount = within(x);
-        let delay = Deviation::Delay(Ticks(amount));
-        let backlog = Deviation::Backlog(Units(amount as u64));
         match kind {
-            1 => Named::Claim(Claim::Equals(Operation::Sum)),
-            2 => Named::Claim(Claim::Equals(Operation::Minimum)),
-            3 => Named::Claim(Claim::Equals(Operation::Convolution)),
-            4 => limited(x, Claim::AtMost(delay)),
-            5 => limited(x, Claim::Exactly(delay)),
-            6 => limited(x, Claim::AtMost(backlog)),
-            7 => limited(x, Claim::Exactly(backlog)),
-            _ => Named::UnknownKind,
+            1 => Ok(Claim::Equals(Operation::Sum)),
+            2 => Ok(Claim::Equals(Operation::Minimum)),
+            3 => Ok(Claim::Equals(Operation::Convolution)),
+            4 => Ok(Claim::AtMost(Deviation::Delay(Ticks(within(x)?)))),
+            5 => Ok(Claim::Exactly(Deviation::Delay(Ticks(within(x)?)))),
+            6 => Ok(Claim::AtMost(Deviation::Backlog(Units(within(x)? as u64)))),
+            7 => Ok(Claim::Exactly(Deviation::Backlog(Units(within(x)? as u64)))),
+            _ => Err(ClaimError::UnknownKind),
         }
     }
 }
 
 // X where it is within its limit.
-fn within(x: u64) -> u32
+fn within(x: u64) -> Result<u32, ClaimError>
     ensures { result ≡ within x }
 {
-    if x <= Claim::MAX_X as u64 {
-        x as u32
-    } else {
-        0
-    }
-}
-
-fn limited(x: u64, claim: Claim) -> Named
-    ensures { result ≡ limited_by x claim }
-{
-    if (Claim::MAX_X as u64) < x {
-        Named::XTooLarge
-    } else {
-        Named::Claim(claim)
+    match u32::try_from(x) {
+        Ok(amount) if amount <= Claim::MAX_X => Ok(amount),
+        _ => Err(ClaimError::XTooLarge),
     }
 }

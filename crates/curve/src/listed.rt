@@ -13,41 +13,25 @@ use crate::{Form, Ticks};
 pub(crate) fn number_at(numbers: &[u32], at: usize) -> u32
     ensures { result ≡ get_or numbers.now at 0 }
 {
-    if at < numbers.len() {
-        return numbers[at];
-    }
-    0
+    numbers.get(at).copied().unwrap_or(0)
 }
 
 // A number that needs more than 32 bits stands as their largest.
 pub(crate) fn narrow(x: u64) -> u32
     ensures { result ≡ min x largest }
 {
-    if x < 4_294_967_295 {
-        x as u32
-    } else {
-        4_294_967_295
-    }
+    u32::try_from(x).unwrap_or(u32::MAX)
 }
 
-// A fall is no rise, and stands as the largest number: no curve within the limits has such a rise.
-fn rise(before: u32, after: u32) -> u32
+// A fall is no rise, and stands as the largest number: no curve within the limits has such a rise. What comes after the
+// last value may need more than 32 bits.
+fn rise(before: u32, after: u64) -> u32
     ensures { result ≡ rise before after }
 {
-    if after < before {
-        return 4_294_967_295;
+    match after.checked_sub(before as u64) {
+        Some(rise) => narrow(rise),
+        None => u32::MAX,
     }
-    after - before
-}
-
-// The same over the seam, where what comes after may need more than 32 bits.
-fn rise_far(before: u32, after: u64) -> u32
-    ensures { result ≡ rise before after }
-{
-    if after < before as u64 {
-        return 4_294_967_295;
-    }
-    narrow(after - before as u64)
 }
 
 // Each of the first `count` values, turned into the rise to the next one.
@@ -55,10 +39,8 @@ fn put_inner(values: &mut [u32], count: usize)
     requires { count < length values.old }
     ensures { values.new ≡ over (rise_within values.old) count values.old }
 {
-    let mut n: usize = 0;
-    while n < count {
-        values[n] = rise(values[n], values[n + 1]);
-        n += 1;
+    for n in 0..count {
+        values[n] = rise(values[n], values[n + 1] as u64);
     }
 }
 
@@ -77,21 +59,18 @@ fn after_last(rank: Ticks, period: Ticks, increment: u32, values: &[u32]) -> u64
 fn put_rises(rank: Ticks, period: Ticks, increment: u32, values: &mut [u32])
     ensures { values.new ≡ rises_over (record { rank = rank.0; period = period.0; increment = increment; listed = values.old }) }
 {
-    let mut held = rank.0 as usize + period.0 as usize;
-    if values.len() < held {
-        held = values.len();
-    }
+    let held = values.len().min(rank.0 as usize + period.0 as usize);
     if held == 0 {
         return;
     }
     let after = after_last(rank, period, increment, values);
     let last = held - 1;
     put_inner(values, last);
-    values[last] = rise_far(values[last], after);
+    values[last] = rise(values[last], after);
 }
 
 // The form of listed values, which are turned into their rises where they stand.
-pub fn hold(rank: Ticks, period: Ticks, increment: u32, values: &mut [u32]) -> Form
+pub(crate) fn hold(rank: Ticks, period: Ticks, increment: u32, values: &mut [u32]) -> Form
     ensures value { result ≡ form_over (record { rank = rank.0; period = period.0; increment = increment; listed = values.old }) }
     ensures values_after { values.new ≡ rises_over (record { rank = rank.0; period = period.0; increment = increment; listed = values.old }) }
 {

@@ -1,10 +1,10 @@
 // A walk over a curve's ticks: one rise a tick, and no division but where it begins.
 ghost use Rattle.std.specs.Prelude.{◌≡◌};
-ghost use Rattle.curve.specs.Held.{held_as};
+ghost use Rattle.curve.specs.Held.{steps_of};
 ghost use Rattle.curve.specs.Walks.{Walkable, walk_by, walk_start, next_walk};
 
-use crate::values::{turn_by, value_after};
-use crate::{Form, Ticks, Units};
+use crate::values::turn_by;
+use crate::{Form, Held, Ticks, Units};
 
 // The place of the rise that comes next, and the value before it.
 #[derive(Clone, Copy)]
@@ -25,33 +25,27 @@ impl Walk {
     }
 
     // A walk that begins at any tick.
-    pub fn at(form: Form, rises: &[u32], tick: Ticks) -> Walk
-        ensures { result ≡ walk_by (held_as form rises.now) tick.0 }
+    pub fn at(curve: Held, tick: Ticks) -> Walk
+        ensures { result ≡ walk_by (steps_of curve.entry) tick.0 }
     {
-        let begin = turn_by(form, tick);
-        let place = begin.place as usize;
-        let value = value_after(form, rises, begin);
-        Walk { place, value }
+        let begin = turn_by(curve.form, tick);
+        Walk {
+            place: begin.place as usize,
+            value: curve.value_after(begin),
+        }
     }
 
     // One tick on: one place on, and after the last one back to the rank's.
-    pub fn next(self, form: Form, rises: &[u32]) -> Walk
-        requires { Walkable (held_as form rises.now) self }
-        ensures { result ≡ next_walk (held_as form rises.now) self }
+    pub fn next(self, curve: Held) -> Walk
+        requires { Walkable (steps_of curve) self }
+        ensures { result ≡ next_walk (steps_of curve.entry) self }
     {
-        let t = form.rank.0 as usize;
-        let count = t + form.period.0 as usize;
-        let at = self.place;
-        let value = self.value;
-        let rise = &rises[at];
-        let risen = value.0 + *rise as u64;
-        let mut place = at + 1;
-        if count <= place {
-            place = t;
-        }
+        let t = curve.form.rank.0 as usize;
+        let count = t + curve.form.period.0 as usize;
+        let next = self.place + 1;
         Walk {
-            place,
-            value: Units(risen),
+            place: if next < count { next } else { t },
+            value: Units(self.value.0 + curve.rises[self.place] as u64),
         }
     }
 }

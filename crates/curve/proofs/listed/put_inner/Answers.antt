@@ -9,30 +9,27 @@ use Rattle.curve.specs.Rises.{rise, rise_within}
 use Rattle.curve.proofs.listed.put_inner.Goals as goal
 
 pub loop-n-init : goal.loop-n-init
-loop-n-init c = ((omega arith, c.requires), (refl, sym (over_none _ _)))
+loop-n-init c = (refl, sym (over_none _ _))
 
 pub loop-n-preserved : goal.loop-n-preserved
 loop-n-preserved c =
     let t = c.loop-n in
     let l = c.args.values.now in
     let here : get_or t.values t.n 0 ≡ get_or l t.n 0 =
-    ap (λ (s : List ℕ). get_or s t.n 0) t.invariant.1.1 ∙ over_past (rise_within l) t.n l t.n (omega arith) in
+    ap (λ (s : List ℕ). get_or s t.n 0) t.invariant.1 ∙ over_past (rise_within l) t.n l t.n (omega arith) in
     let next : get_or t.values (t.n + 1) 0 ≡ get_or l (suc t.n) 0 =
-    ap (λ (s : List ℕ). get_or s (t.n + 1) 0) t.invariant.1.1 ∙ over_past (rise_within l) t.n l (t.n + 1) (omega arith) ∙ ap (λ (n : ℕ). get_or l n 0) (add-one t.n) in
+    ap (λ (s : List ℕ). get_or s (t.n + 1) 0) t.invariant.1 ∙ over_past (rise_within l) t.n l (t.n + 1) (omega arith) ∙ ap (λ (n : ℕ). get_or l n 0) (add-one t.n) in
     let stored : c.rise.result ≡ rise_within l t.n = c.rise.ensures ∙ ap₂ rise here next in (
-      (omega arith, t.invariant.0.1),
-      (
-        simp length-set t.invariant.1.0,
-        rw (stored, t.invariant.1.1) (over-more (rise_within l) t.n l (omega arith)),
-      ),
+      simp length-set t.invariant.0,
+      rw (stored, t.invariant.1) (over-more (rise_within l) t.n l (omega arith)),
     )
 
 pub shape_of-values : goal.shape_of-values
-shape_of-values c = c.loop-n.invariant.1.0
+shape_of-values c = c.loop-n.invariant.0
 
 pub returns : goal.returns
 returns c =
     let t = c.loop-n in
     let l = c.args.values.now in
     let all : t.n ≡ c.args.count = omega arith in
-    t.invariant.1.1 ∙ ap (λ (k : ℕ). over (rise_within l) k l) all
+    t.invariant.1 ∙ ap (λ (k : ℕ). over (rise_within l) k l) all

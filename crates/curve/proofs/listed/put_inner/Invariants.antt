@@ -1,4 +1,3 @@
-use Prim.Native.Nat.{◌-◌, ◌≤◌, ◌<◌}
 use mathlib.Core.Path.{◌≡◌}
 use lib.ListN.{length}
 use Rattle.curve.specs.Filled.{over}
@@ -6,7 +5,4 @@ use Rattle.curve.specs.Rises.{rise_within}
 use Rattle.curve.proofs.listed.put_inner.Given as goal
 
 abbrev pub invariant-loop-n : goal.invariant-loop-n
-invariant-loop-n l = ((l.n ≤ l.count) × (l.count < length l.initial.values)) × ((length l.values ≡ length l.initial.values) × (l.values ≡ over (rise_within l.initial.values) l.n l.initial.values))
-
-abbrev pub decreases-loop-n : goal.decreases-loop-n
-decreases-loop-n l = l.count - l.n
+invariant-loop-n l = (length l.values ≡ length l.initial.values) × (l.values ≡ over (rise_within l.initial.values) l.n l.initial.values)

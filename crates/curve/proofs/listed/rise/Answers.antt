@@ -3,8 +3,10 @@ use native.Mathlib.Omega.{arith}
 use Rattle.curve.specs.Rises.{rise_falls, rise_holds}
 use Rattle.curve.proofs.listed.rise.Goals as goal
 
-pub returns-then-after-before : goal.returns-then-after-before
-returns-then-after-before c = sym (rise_falls c.args.before c.args.after c.if-after-before.true)
+pub returns-in-Some : goal.returns-in-Some
+returns-in-Some c =
+    let up = c.in-Some.ensures in
+    omega (arith, up, rise_holds c.args.before c.args.after up.0)
 
-pub returns : goal.returns
-returns c = omega (arith, rise_holds c.args.before c.args.after c.if-after-before.false)
+pub returns-in-None : goal.returns-in-None
+returns-in-None c = sym (rise_falls c.args.before c.args.after (omega (arith, c.in-None.ensures)))

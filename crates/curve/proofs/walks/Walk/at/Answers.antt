@@ -3,4 +3,4 @@ use Rattle.curve.proofs.walks.Walk.at.Goals as goal
 
 pub returns : goal.returns
 unfolding value_by
-returns c = rw (c.value_after-value.ensures, c.turn_by-begin.ensures)
+returns c = rw (c.value_after.ensures, c.turn_by-begin.ensures)

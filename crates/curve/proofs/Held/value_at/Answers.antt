@@ -1,5 +1,5 @@
 use Rattle.curve.specs.Steps.{value_by}
-use Rattle.curve.proofs.values.value_at.Goals as goal
+use Rattle.curve.proofs.Held.value_at.Goals as goal
 
 pub returns : goal.returns
 unfolding value_by

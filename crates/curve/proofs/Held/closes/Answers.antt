@@ -1,5 +1,5 @@
 use Rattle.curve.specs.Steps.{closes}
-use Rattle.curve.proofs.values.closes.Goals as goal
+use Rattle.curve.proofs.Held.closes.Goals as goal
 
 pub returns : goal.returns
 unfolding closes
