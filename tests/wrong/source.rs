@@ -31,11 +31,23 @@ fn named(line: &str) -> Option<(bool, &str)> {
     Some((public, rest.split(['(', '<']).next()?))
 }
 
-/// The type that an `impl` is for.
-fn type_of(line: &str) -> Option<&str> {
+/// A word with its first letter large, as the prover joins the parts of an `impl`'s name.
+fn large(word: &str) -> String {
+    let mut letters = word.chars();
+    letters.next().map_or(String::new(), |first| first.to_uppercase().chain(letters).collect())
+}
+
+/// What the prover calls an `impl`: its type, or of a trait's `Type`, `Trait` and what stands in its brackets, in one
+/// word: `TagTryFromU8`. The second says which of the two.
+fn type_of(line: &str) -> Option<(String, bool)> {
     let rest = line.strip_prefix("impl")?;
     let rest = if rest.starts_with('<') { &rest[rest.find('>')? + 1..] } else { rest };
-    rest.trim_start().split(|c: char| !c.is_alphanumeric()).next()
+    let words = |text: &str| text.split(|c: char| !c.is_alphanumeric()).map(large).collect::<String>();
+    let first = |text: &str| text.trim_start().split(|c: char| !c.is_alphanumeric()).next().map(String::from);
+    match rest.split_once(" for ") {
+        Some((of, ty)) => Some((first(ty)? + &words(of), true)),
+        None => Some((first(rest)?, false)),
+    }
 }
 
 fn in_file(file: &Path, text: &str, found: &mut Vec<Function>) -> Result<(), String> {
@@ -44,6 +56,9 @@ fn in_file(file: &Path, text: &str, found: &mut Vec<Function>) -> Result<(), Str
         Some(stem) => format!("{stem}::"),
     };
     let mut of_type = String::new();
+    let mut of_trait = false;
+    // a trait's function is promised by the ghost members above it, as `ghost from_gives = { .. }`
+    let mut given = false;
     let mut at = 0;
     let mut lines = Vec::new();
     for line in text.split_inclusive('\n') {
@@ -51,11 +66,14 @@ fn in_file(file: &Path, text: &str, found: &mut Vec<Function>) -> Result<(), Str
         at += line.len();
     }
     for (k, (_, line)) in lines.iter().enumerate() {
-        if let Some(name) = type_of(line) {
+        if let Some((name, one_of_trait)) = type_of(line) {
             of_type = format!("{name}::");
+            (of_trait, given) = (one_of_trait, false);
         } else if *line == "}" {
             of_type.clear();
+            of_trait = false;
         }
+        given |= of_trait && line.trim_start().starts_with("ghost ") && !line.trim_start().starts_with("ghost use ");
         let indent = &line[..line.len() - line.trim_start().len()];
         let Some((public, name)) = named(line.trim_start()) else { continue };
         let path = format!("{module}{of_type}{name}");
@@ -64,7 +82,8 @@ fn in_file(file: &Path, text: &str, found: &mut Vec<Function>) -> Result<(), Str
         let opens = |&(_, l): &&(usize, &str)| *l == alone || (l.ends_with(" {") && (*l == *line || l.starts_with(&format!("{indent})"))));
         let open = k + lines[k..].iter().position(|l| opens(&l)).ok_or_else(lost)?;
         let close = open + 1 + lines[open + 1..].iter().position(|(_, l)| *l == format!("{indent}}}")).ok_or_else(lost)?;
-        let promised = lines[k..=open].iter().any(|(_, l)| l.trim_start().starts_with("ensures"));
+        let public = public || of_trait;
+        let promised = lines[k..=open].iter().any(|(_, l)| l.trim_start().starts_with("ensures")) || (of_trait && given);
         found.push(Function { path, public, promised, file: file.to_path_buf(), body: lines[open + 1].0..lines[close].0, lines: k + 1..close + 2 });
     }
     Ok(())
