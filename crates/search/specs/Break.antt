@@ -15,11 +15,13 @@
 --     less_none          X-1 is not asked for where X is 0,
 --     less_nowhere       and elsewhere it is a bound if no tried tick breaks it
 use Prim.Native.Nat.{ℕ, suc, ◌+◌, ◌-◌, ◌≤◌, ◌<◌}
-use Rattle.std.specs.Prelude.{◌≡◌, Bool, true, false}
+use Rattle.std.specs.Prelude.{◌≡◌, Bool, true, false, Option, Some, None}
 use Rattle.std.proofs.Math.Path.{refl, ap}
 use Rattle.std.proofs.Common.{◌∙◌, arith, lt-ltb}
-use Rattle.std.proofs.Math.Option.{Option, none, some}
-use Rattle.std.proofs.Math.Dec.{ltb}
+use borrow.Author.Tests.{eqb-true, eqb-false}
+use Rattle.std.proofs.Math.Option as Math
+use Rattle.std.proofs.Math.Option.{none, some}
+use Rattle.std.proofs.Math.Dec.{eqb, ltb}
 use Rattle.minplus.specs.Curve.{Curve, value}
 use Rattle.minplus.specs.Claim.{Claim, Deviation, Tightness, allowed, at_most, bounds, equals, exactly, max_x}
 use Rattle.minplus.specs.Horizon.{horizon, max_horizon}
@@ -31,9 +33,8 @@ use Rattle.curve.specs.declared.Operation as op
 use Rattle.curve.specs.declared.Deviation.TheVariants.{Delay, Backlog}
 use Rattle.curve.specs.Steps.{Steps, Lent, curve_from}
 use Rattle.curve.specs.Claimed.{LentClaim, amount_of, bound_over, claim_over, deviation_of, operation_of}
+use Rattle.search.specs.declared.Break.{Break}
 use Rattle.search.specs.declared.Compared.{Compared}
-use Rattle.search.specs.declared.Found.{Found}
-use Rattle.search.specs.declared.Found.TheVariants.{At, Nowhere}
 use Rattle.search.specs.Found.{compared_from, compared_of, found_same}
 
 abbrev pub first_of_tried : Claim → ℕ → Compared
@@ -87,9 +88,14 @@ pub record Comparable (f g : Steps) (later more tried : ℕ) : Type 0 where
   pub more_fits : more ≤ max_x
   pub within : tried ≤ max_horizon
 
-abbrev pub is_nowhere : Found → Bool
-is_nowhere (At tick left right) = false
-is_nowhere Nowhere = true
+abbrev pub is_nowhere : Option Break → Bool
+is_nowhere (Some found) = false
+is_nowhere None = true
+
+-- X-1, and none where X is 0
+unfoldable pub less_of : deviation.Deviation → Option deviation.Deviation
+less_of (Delay x) = elim (eqb x.0 0) [ true ↦ None | false ↦ Some (Delay (record { 0 = x.0 - 1 })) ]
+less_of (Backlog x) = elim (eqb x.0 0) [ true ↦ None | false ↦ Some (Backlog (record { 0 = x.0 - 1 })) ]
 
 -- ---- laws
 
@@ -101,6 +107,41 @@ allowed-by (Backlog x) g s = let e : s + 0 ≡ s = omega arith in ap (λ (n : �
 by_fits : (x : deviation.Deviation) → (later_by x ≤ amount_of x) × (more_by x ≤ amount_of x)
 by_fits (Delay x) = (omega arith, omega arith)
 by_fits (Backlog x) = (omega arith, omega arith)
+
+-- what X-1 is, where X is not 0
+pub less_some : (x : deviation.Deviation) {y : deviation.Deviation} → less_of x ≡ Some y → (0 < amount_of x) × (deviation_of y ≡ deviation_of x) × (amount_of y ≡ amount_of x - 1)
+unfolding less_of
+less_some (Delay x) {y} = go (eqb x.0 0) refl
+  where
+    less : deviation.Deviation
+    less = Delay (record { 0 = x.0 - 1 })
+
+    go : (b : Bool) → eqb x.0 0 ≡ b → elim b as (λ _. Option deviation.Deviation) [ true ↦ None | false ↦ Some less ] ≡ Some y
+        → (0 < x.0) × (deviation_of y ≡ deviation_of less) × (amount_of y ≡ x.0 - 1)
+    go true e is = absurd (cc)
+    go false e is = let same : y ≡ less = cc in (omega (arith, eqb-false x.0 0 e), ap deviation_of same, ap amount_of same)
+less_some (Backlog x) {y} = go (eqb x.0 0) refl
+  where
+    less : deviation.Deviation
+    less = Backlog (record { 0 = x.0 - 1 })
+
+    go : (b : Bool) → eqb x.0 0 ≡ b → elim b as (λ _. Option deviation.Deviation) [ true ↦ None | false ↦ Some less ] ≡ Some y
+        → (0 < x.0) × (deviation_of y ≡ deviation_of less) × (amount_of y ≡ x.0 - 1)
+    go true e is = absurd (cc)
+    go false e is = let same : y ≡ less = cc in (omega (arith, eqb-false x.0 0 e), ap deviation_of same, ap amount_of same)
+
+pub less_nothing : (x : deviation.Deviation) → less_of x ≡ None → amount_of x ≡ 0
+unfolding less_of
+less_nothing (Delay x) = go (eqb x.0 0) refl
+  where
+    go : (b : Bool) → eqb x.0 0 ≡ b → elim b as (λ _. Option deviation.Deviation) [ true ↦ None | false ↦ Some (Delay (record { 0 = x.0 - 1 })) ] ≡ None → x.0 ≡ 0
+    go true e is = eqb-true _ _ e
+    go false e is = absurd (cc)
+less_nothing (Backlog x) = go (eqb x.0 0) refl
+  where
+    go : (b : Bool) → eqb x.0 0 ≡ b → elim b as (λ _. Option deviation.Deviation) [ true ↦ None | false ↦ Some (Backlog (record { 0 = x.0 - 1 })) ] ≡ None → x.0 ≡ 0
+    go true e is = eqb-true _ _ e
+    go false e is = absurd (cc)
 
 -- kinds 4 to 7 are searched so
 module _ (x : deviation.Deviation) where
@@ -156,6 +197,6 @@ module _ (δ : Deviation) (f g : Curve) (X : ℕ) where
       less : Claim
       less = bounds δ exactly f g (X - 1)
 
-      go : (o : Option ℕ) → is_nowhere (compared_from (left_at less) (right_at less) (tried less) o).found ≡ elim o as (λ _. Bool) [ none ↦ true | some _ ↦ false ]
+      go : (o : Math.Option ℕ) → is_nowhere (compared_from (left_at less) (right_at less) (tried less) o).found ≡ elim o as (λ _. Bool) [ none ↦ true | some _ ↦ false ]
       go none = refl
       go (some n) = refl

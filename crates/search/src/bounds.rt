@@ -3,13 +3,13 @@ ghost use Rattle.std.specs.Prelude.{◌≡◌, ◌≤◌};
 ghost use Rattle.minplus.specs.Claim.{at_most, max_x};
 ghost use Rattle.minplus.specs.Horizon.{max_horizon};
 ghost use Rattle.curve.specs.Steps.{Lent, curve_from};
-ghost use Rattle.curve.specs.Held.{held_as};
+ghost use Rattle.curve.specs.Held.{steps_of};
 ghost use Rattle.curve.specs.Claimed.{amount_of, bound_over};
 ghost use Rattle.search.specs.Break.{Comparable, first_above, first_of_tried, later_by, more_by};
 
-use crate::{Compared, Found};
+use crate::{Break, Compared};
 use curve::walks::Walk;
-use curve::{Deviation, Form, Ticks, Units};
+use curve::{Deviation, Held, Ticks, Units};
 
 // Kinds 4 and 5: how many ticks later the right value is taken. A backlog's is not.
 fn later_by(deviation: Deviation) -> Ticks
@@ -32,60 +32,42 @@ fn more_by(deviation: Deviation) -> Units
 }
 
 // The first of the `tried` ticks at which f is above what g is so many ticks later, and so many units more. Each of the
-// two is walked over, one rise a tick. The loop counts the ticks that it compares, the one that it stops at included.
-fn first_above(
-    f: Form,
-    left: &[u32],
-    g: Form,
-    right: &[u32],
-    later: Ticks,
-    more: Units,
-    tried: usize,
-) -> Compared
-    requires { Comparable (held_as f left.now) (held_as g right.now) later.0 more.0 tried }
-    ensures { result ≡ first_above (curve_from (held_as f left.now)) (curve_from (held_as g right.now)) later.0 more.0 tried }
+// two is walked over, one rise a tick. The tick that the loop stops at is compared too.
+fn first_above(f: Held, g: Held, later: Ticks, more: Units, tried: usize) -> Compared
+    requires { Comparable (steps_of f) (steps_of g) later.0 more.0 tried }
+    ensures { result ≡ first_above (curve_from (steps_of f.entry)) (curve_from (steps_of g.entry)) later.0 more.0 tried }
 {
-    let mut arrived = Walk::start(f);
-    let mut served = Walk::at(g, right, later);
-    let mut found = Found::Nowhere;
-    let mut s: usize = 0;
-    'ticks: while s < tried {
+    let mut arrived = Walk::start(f.form);
+    let mut served = Walk::at(g, later);
+    for s in 0..tried {
         let value = arrived.value;
-        let service = served.value;
-        let allowed = service.0 + more.0;
+        let allowed = served.value.0 + more.0;
         if allowed < value.0 {
-            let tick = s as u32;
-            found = Found::At {
-                tick: Ticks(tick),
+            let found = Break {
+                tick: Ticks(s as u32),
                 left: value,
                 right: Units(allowed),
             };
-            s += 1;
-            break 'ticks;
+            return Compared {
+                found: Some(found),
+                ticks: Ticks(s as u32 + 1),
+            };
         }
-        arrived = arrived.next(f, left);
-        served = served.next(g, right);
-        s += 1;
+        arrived = arrived.next(f);
+        served = served.next(g);
     }
     Compared {
-        found,
-        ticks: Ticks(s as u32),
+        found: None,
+        ticks: Ticks(tried as u32),
     }
 }
 
 // The first of the `tried` ticks at which the left value is above the right one.
-pub fn first_over(
-    deviation: Deviation,
-    f: Form,
-    left: &[u32],
-    g: Form,
-    right: &[u32],
-    tried: usize,
-) -> Compared
-    requires { Lent (held_as f left.now) × Lent (held_as g right.now) × (amount_of deviation ≤ max_x) × (tried ≤ max_horizon) }
-    ensures { result ≡ first_of_tried (bound_over deviation at_most (curve_from (held_as f left.now)) (curve_from (held_as g right.now))) tried }
+pub fn first_over(deviation: Deviation, f: Held, g: Held, tried: usize) -> Compared
+    requires { Lent (steps_of f) × Lent (steps_of g) × (amount_of deviation ≤ max_x) × (tried ≤ max_horizon) }
+    ensures { result ≡ first_of_tried (bound_over deviation at_most (curve_from (steps_of f.entry)) (curve_from (steps_of g.entry))) tried }
 {
     let later = later_by(deviation);
     let more = more_by(deviation);
-    first_above(f, left, g, right, later, more, tried)
+    first_above(f, g, later, more, tried)
 }

@@ -7,11 +7,11 @@ ghost use Rattle.minplus.specs.Claim.{at_most, exactly, max_x};
 ghost use Rattle.minplus.specs.Horizon.{max_horizon};
 ghost use Rattle.minplus.specs.Verdict.{less_holds};
 ghost use Rattle.curve.specs.Steps.{Lent, curve_from};
-ghost use Rattle.curve.specs.Held.{held_as};
+ghost use Rattle.curve.specs.Held.{steps_of};
 ghost use Rattle.curve.specs.Claimed.{amount_of, bound_over};
-ghost use Rattle.search.specs.Break.{LessAsked, first_of_tried, is_nowhere};
+ghost use Rattle.search.specs.Break.{LessAsked, first_of_tried, is_nowhere, less_of};
 
-use curve::{Deviation, Form, Ticks, Units};
+use curve::{Deviation, Held, Ticks, Units};
 
 pub mod bounds;
 pub mod results;
@@ -20,68 +20,50 @@ use crate::bounds::first_over;
 
 // The first tick that breaks the rule, with its left and its right value.
 #[derive(Clone, Copy)]
-pub enum Found {
-    At {
-        tick: Ticks,
-        left: Units,
-        right: Units,
-    },
-    Nowhere,
+pub struct Break {
+    pub tick: Ticks,
+    pub left: Units,
+    pub right: Units,
 }
 
 // What a search comes to: what it found, and how many ticks it compared for that, from 0 on.
 #[derive(Clone, Copy)]
 pub struct Compared {
-    pub found: Found,
+    pub found: Option<Break>,
     pub ticks: Ticks,
 }
 
 // Kinds 4 to 7: no tried tick breaks the rule.
-fn holds(
-    deviation: Deviation,
-    f: Form,
-    left: &[u32],
-    g: Form,
-    right: &[u32],
-    horizon: usize,
-) -> bool
-    requires { Lent (held_as f left.now) × Lent (held_as g right.now) × (amount_of deviation ≤ max_x) × (horizon ≤ max_horizon) }
-    ensures { result ≡ is_nowhere (first_of_tried (bound_over deviation at_most (curve_from (held_as f left.now)) (curve_from (held_as g right.now))) horizon).found }
+fn holds(deviation: Deviation, f: Held, g: Held, horizon: usize) -> bool
+    requires { Lent (steps_of f) × Lent (steps_of g) × (amount_of deviation ≤ max_x) × (horizon ≤ max_horizon) }
+    ensures { result ≡ is_nowhere (first_of_tried (bound_over deviation at_most (curve_from (steps_of f.entry)) (curve_from (steps_of g.entry))) horizon).found }
 {
-    let compared = first_over(deviation, f, left, g, right, horizon);
-    let found = compared.found;
-    match found {
-        Found::At { .. } => false,
-        Found::Nowhere => true,
+    first_over(deviation, f, g, horizon).found.is_none()
+}
+
+// X-1. Nothing is less than 0.
+fn less_of(deviation: Deviation) -> Option<Deviation>
+    ensures { result ≡ less_of deviation }
+{
+    match deviation {
+        Deviation::Delay(x) => {
+            let less = x.0.checked_sub(1)?;
+            Some(Deviation::Delay(Ticks(less)))
+        }
+        Deviation::Backlog(x) => {
+            let less = x.0.checked_sub(1)?;
+            Some(Deviation::Backlog(Units(less)))
+        }
     }
 }
 
 // Kinds 5 and 7: X > 0, and no tried tick breaks the rule for X-1.
-pub fn less_holds(
-    deviation: Deviation,
-    f: Form,
-    left: &[u32],
-    g: Form,
-    right: &[u32],
-    horizon: usize,
-) -> bool
-    requires { LessAsked deviation (held_as f left.now) (held_as g right.now) horizon }
-    ensures { result ≡ less_holds (bound_over deviation exactly (curve_from (held_as f left.now)) (curve_from (held_as g right.now))) }
+pub fn less_holds(deviation: Deviation, f: Held, g: Held, horizon: usize) -> bool
+    requires { LessAsked deviation (steps_of f) (steps_of g) horizon }
+    ensures { result ≡ less_holds (bound_over deviation exactly (curve_from (steps_of f.entry)) (curve_from (steps_of g.entry))) }
 {
-    match deviation {
-        Deviation::Delay(x) => {
-            if x.0 == 0 {
-                return false;
-            }
-            let less = Deviation::Delay(Ticks(x.0 - 1));
-            holds(less, f, left, g, right, horizon)
-        }
-        Deviation::Backlog(x) => {
-            if x.0 == 0 {
-                return false;
-            }
-            let less = Deviation::Backlog(Units(x.0 - 1));
-            holds(less, f, left, g, right, horizon)
-        }
+    match less_of(deviation) {
+        Some(less) => holds(less, f, g, horizon),
+        None => false,
     }
 }

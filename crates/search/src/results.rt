@@ -1,68 +1,53 @@
 // Kinds 1 and 2: three walks beside each other.
-ghost use Rattle.std.specs.Prelude.{◌≡◌, ◌+◌, ◌<◌};
+ghost use Rattle.std.specs.Prelude.{◌≡◌, Bool};
 ghost use Rattle.minplus.specs.Claim.{equals};
 ghost use Rattle.curve.specs.Steps.{curve_from};
-ghost use Rattle.curve.specs.Held.{held_as};
-ghost use Rattle.search.specs.Beside.{beside_at, beside_of};
+ghost use Rattle.curve.specs.Held.{steps_of};
+ghost use Rattle.search.specs.Beside.{GivesBeside, TakesTwo, beside_of};
 ghost use Rattle.search.specs.Break.{Searched, first_of_tried};
 
-use crate::{Compared, Found};
+use crate::{Break, Compared};
 use curve::walks::Walk;
-use curve::{Form, Ticks, Units};
+use curve::{Held, Ticks, Units};
 
-// What is due of two values at one tick: the smaller, or their sum, which need not fit 32 bits.
-fn beside(minimum: bool, a: u64, b: u64) -> u64
-    requires { a + b < 18_446_744_073_709_551_616 }
-    ensures { result ≡ beside_at minimum a b }
-{
-    if minimum {
-        if b < a { b } else { a }
-    } else {
-        a + b
-    }
-}
-
-// The first of the `tried` ticks at which h differs from the minimum, or the sum, of f and g. The loop counts the ticks
-// that it compares, the one that it stops at included.
-pub fn first_unlike(
-    minimum: bool,
-    f: Form,
-    left: &[u32],
-    g: Form,
-    right: &[u32],
-    h: Form,
-    claimed: &[u32],
+// The first of the `tried` ticks at which h differs from what is made of f and g there. The caller says what that is:
+// the smaller of two values, or their sum, which need not fit 32 bits. The tick that the loop stops at is compared too.
+pub fn first_unlike<B: Fn(u64, u64) -> u64>(
+    beside: B,
+    f: Held,
+    g: Held,
+    h: Held,
     tried: usize,
 ) -> Compared
-    requires { Searched (held_as f left.now) (held_as g right.now) (held_as h claimed.now) tried }
-    ensures { result ≡ first_of_tried (equals (beside_of minimum) (curve_from (held_as f left.now)) (curve_from (held_as g right.now)) (curve_from (held_as h claimed.now))) tried }
+    requires searched { Searched (steps_of f) (steps_of g) (steps_of h) tried }
+    requires takes { TakesTwo (B.pre beside) }
+    ensures { (minimum : Bool) → GivesBeside minimum (B.post beside) → result ≡ first_of_tried (equals (beside_of minimum) (curve_from (steps_of f.entry)) (curve_from (steps_of g.entry)) (curve_from (steps_of h.entry))) tried }
 {
-    let mut one = Walk::start(f);
-    let mut other = Walk::start(g);
-    let mut said = Walk::start(h);
-    let mut found = Found::Nowhere;
-    let mut n: usize = 0;
-    'ticks: while n < tried {
+    let mut one = Walk::start(f.form);
+    let mut other = Walk::start(g.form);
+    let mut said = Walk::start(h.form);
+    for n in 0..tried {
         let first = one.value;
         let second = other.value;
         let value = said.value;
-        let due = beside(minimum, first.0, second.0);
+        let due = beside(first.0, second.0);
         if due != value.0 {
-            found = Found::At {
+            let found = Break {
                 tick: Ticks(n as u32),
                 left: Units(due),
                 right: value,
             };
-            n += 1;
-            break 'ticks;
+            return Compared {
+                found: Some(found),
+                ticks: Ticks(n as u32 + 1),
+            };
         }
-        one = one.next(f, left);
-        other = other.next(g, right);
-        said = said.next(h, claimed);
-        n += 1;
+        one = one.next(f);
+        other = other.next(g);
+        said = said.next(h);
     }
     Compared {
-        found,
-        ticks: Ticks(n as u32),
+        found: None,
+        ticks: Ticks(tried as u32),
     }
 }

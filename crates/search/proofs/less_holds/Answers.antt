@@ -1,30 +1,25 @@
-use mathlib.Core.Path.{◌∙◌}
+use Prim.Native.Nat.{ℕ}
+use mathlib.Core.Path.{ap₂, sym, ◌∙◌}
 use native.Mathlib.Omega.{arith}
-use Rattle.search.specs.Break.{less_none, less_nowhere}
+use Rattle.minplus.specs.Claim.{Deviation, at_most, bounds}
+use Rattle.curve.specs.Steps.{curve_from}
+use Rattle.curve.specs.Held.{steps_of}
+use Rattle.search.specs.Break.{first_of_tried, is_nowhere, less_none, less_nothing, less_nowhere, less_some}
 use Rattle.search.proofs.less_holds.Goals as goal
-
-pub returns-then-x-eq0 : goal.returns-then-x-eq0
-returns-then-x-eq0 c = rw c.in-Delay.is (less_none _ _ _ _ c.if-x-eq0.true)
 
 pub holds-requires : goal.holds-requires
 holds-requires c =
-    let pre = rw c.in-Delay.is at c.requires in
-    (pre.left, pre.right, omega (arith, pre.x_fits), pre.within)
+    let pre = c.requires in
+    let less = less_some c.args.deviation (sym c.less_of.ensures ∙ c.in-Some.is) in
+    (pre.left, pre.right, omega (arith, less.2, pre.x_fits), pre.within)
 
-pub returns-then-x-eq0-2 : goal.returns-then-x-eq0-2
-returns-then-x-eq0-2 c = rw c.in-Backlog.is (less_none _ _ _ _ c.if-x-eq0-2.true)
+pub returns-in-Some : goal.returns-in-Some
+returns-in-Some c =
+    let a = c.args in
+    let less = less_some a.deviation (sym c.less_of.ensures ∙ c.in-Some.is) in
+    c.holds.ensures
+    ∙ ap₂ (λ (δ : Deviation) (X : ℕ). is_nowhere (first_of_tried (bounds δ at_most (curve_from (steps_of a.f)) (curve_from (steps_of a.g)) X) a.horizon).found) less.1 less.2
+    ∙ less_nowhere _ _ _ _ less.0 _ c.requires.is_horizon
 
-pub holds-requires-in-Backlog : goal.holds-requires-in-Backlog
-holds-requires-in-Backlog c =
-    let pre = rw c.in-Backlog.is at c.requires in
-    (pre.left, pre.right, omega (arith, pre.x_fits), pre.within)
-
-pub returns-else-x-eq0 : goal.returns-else-x-eq0
-returns-else-x-eq0 c =
-    let pre = rw c.in-Delay.is at c.requires in
-    rw c.in-Delay.is (c.holds.ensures ∙ less_nowhere _ _ _ _ (omega arith) _ pre.is_horizon)
-
-pub returns-else-x-eq0-2 : goal.returns-else-x-eq0-2
-returns-else-x-eq0-2 c =
-    let pre = rw c.in-Backlog.is at c.requires in
-    rw c.in-Backlog.is (c.holds-in-Backlog.ensures ∙ less_nowhere _ _ _ _ (omega arith) _ pre.is_horizon)
+pub returns-in-None : goal.returns-in-None
+returns-in-None c = less_none _ _ _ _ (less_nothing c.args.deviation (sym c.less_of.ensures ∙ c.in-None.is))

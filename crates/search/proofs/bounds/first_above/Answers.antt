@@ -1,45 +1,42 @@
 use Prim.Native.Nat.{ℕ, ◌+◌, ◌≤◌, ◌<◌}
-use mathlib.Core.Path.{◌≡◌, refl, sym, ap, ap₂, ◌∙◌}
-use mathlib.Core.Bool.{false}
+use mathlib.Core.Path.{◌≡◌, sym, ap, ap₂, ◌∙◌}
 use native.Mathlib.Omega.{arith}
-use native.Mathlib.Numerals.{add-one}
 use lib.Dec.{ltb}
 use borrow.Author.Count.{below_more, below_none}
 use borrow.Author.Tests.{lt-ltb, le-ltb}
-use Rattle.minplus.specs.Curve.{value, value_at_most}
+use Rattle.minplus.specs.Curve.{value_at_most}
 use Rattle.curve.specs.declared.walks.Walk.{Walk}
 use Rattle.curve.specs.Steps.{Steps, curve_from}
-use Rattle.curve.specs.Held.{held_as}
-use Rattle.curve.specs.Walks.{walk_at, walk_on, next_walk, walk_able, walk_next, walk_on_lem, walk_starts}
-use Rattle.search.specs.Break.{Comparable}
+use Rattle.curve.specs.Held.{steps_of}
+use Rattle.curve.specs.Walks.{walk_at, walk_able, walk_begins, walk_next, walk_starts}
 use Rattle.search.specs.Found.{found_at, found_nowhere}
 use Rattle.search.proofs.bounds.first_above.Goals as goal
-use Rattle.search.proofs.bounds.first_above.Goals.{else-ticks-test, then-ticks-test+then-allowed-value}
 
-pub ticks-init : goal.ticks-init
-unfolding walk_on
-ticks-init c =
-    let F : Steps = let a = c.args in held_as a.f a.left.now in
-    let G : Steps = let a = c.args in held_as a.g a.right.now in
-    let comparable : let a = c.args in Comparable F G a.later.0 a.more.0 a.tried = c.requires in
-    ((omega arith, refl), (c.start-arrived.ensures ∙ walk_starts F comparable.left.well, refl), below_none _)
+-- what is compared at a turn
+tested : (F G : Steps) (s later : ℕ) {v w : Walk} → v ≡ walk_at F s → w ≡ walk_at G (s + later) → (more : ℕ)
+    → ltb (w.value.0 + more) v.value.0 ≡ ltb ((walk_at G (s + later)).value.0 + more) (walk_at F s).value.0
+tested F G s later left right more = ap₂ (λ (x y : Walk). ltb (y.value.0 + more) x.value.0) left right
+
+pub loop-s-init : goal.loop-s-init
+loop-s-init c =
+    let pre = c.requires in
+    let later : ℕ = c.args.later.0 in
+    (
+      (
+        c.start-arrived.ensures ∙ walk_starts (steps_of c.args.f) pre.left.well,
+        c.at-served.ensures ∙ walk_begins (steps_of c.args.g) pre.right.well later (omega (arith, pre.later_fits)) ∙ ap (walk_at (steps_of c.args.g)) (omega arith),
+      ),
+      below_none _,
+    )
 
 pub overflow_add-allowed : goal.overflow_add-allowed
 overflow_add-allowed c =
-    let F : Steps = let a = c.args in held_as a.f a.left.now in
-    let G : Steps = let a = c.args in held_as a.g a.right.now in
-    let later : ℕ = c.args.later.0 in
-    let comparable : let a = c.args in Comparable F G a.later.0 a.more.0 a.tried = c.requires in
-    let serves : (k : ℕ) → k ≤ c.args.tried → walk_on G c.at-served.result k ≡ walk_at G (k + later) = λ k le. let pre = comparable in
-    ap (λ (w : Walk). walk_on G w k) c.at-served.ensures ∙ walk_on_lem G pre.right.well later k (omega (arith, pre.within, pre.later_fits)) in
-    let served-value : (k : ℕ) → k ≤ c.args.tried → (walk_on G c.at-served.result k).value.0 ≡ value (curve_from G) (k + later) = λ k le. ap (λ (w : Walk). w.value.0) (serves k le) in
-    let t = c.ticks in
-    let pre = comparable in
+    let pre = c.requires in
+    let l = c.loop-s in
     omega (
       arith,
-      ap (λ (w : Walk). w.value.0) t.invariant.1.1,
-      served-value t.s t.invariant.0.0,
-      value_at_most (curve_from G) pre.right.well (t.s + later),
+      ap (λ (w : Walk). w.value.0) l.invariant.0.1,
+      value_at_most (curve_from (steps_of c.args.g)) pre.right.well (l.s + c.args.later.0),
       pre.within,
       pre.later_fits,
       pre.more_fits,
@@ -47,68 +44,37 @@ overflow_add-allowed c =
 
 pub next-arrived-requires : goal.next-arrived-requires
 next-arrived-requires c =
-    let F : Steps = let a = c.args in held_as a.f a.left.now in
-    let G : Steps = let a = c.args in held_as a.g a.right.now in
-    let comparable : let a = c.args in Comparable F G a.later.0 a.more.0 a.tried = c.requires in
-    let t = c.ticks in
-    let pre = comparable in
-    rw t.invariant.1.0 (walk_able pre.left t.s (omega (arith, pre.within)))
+    let pre = c.requires in
+    rw c.loop-s.invariant.0.0 (walk_able pre.left c.loop-s.s (omega (arith, pre.within)))
 
 pub next-served-requires : goal.next-served-requires
 next-served-requires c =
-    let F : Steps = let a = c.args in held_as a.f a.left.now in
-    let G : Steps = let a = c.args in held_as a.g a.right.now in
-    let later : ℕ = c.args.later.0 in
-    let comparable : let a = c.args in Comparable F G a.later.0 a.more.0 a.tried = c.requires in
-    let serves : (k : ℕ) → k ≤ c.args.tried → walk_on G c.at-served.result k ≡ walk_at G (k + later) = λ k le. let pre = comparable in
-    ap (λ (w : Walk). walk_on G w k) c.at-served.ensures ∙ walk_on_lem G pre.right.well later k (omega (arith, pre.within, pre.later_fits)) in
-    let t = c.ticks in
-    let pre = comparable in
-    rw (t.invariant.1.1, serves t.s t.invariant.0.0) (walk_able pre.right (t.s + later) (omega (arith, pre.within, pre.later_fits)))
+    let pre = c.requires in
+    rw c.loop-s.invariant.0.1 (walk_able pre.right (c.loop-s.s + c.args.later.0) (omega (arith, pre.within, pre.later_fits)))
 
-pub ticks-preserved : goal.ticks-preserved
-unfolding walk_on
-ticks-preserved c =
-    let F : Steps = let a = c.args in held_as a.f a.left.now in
-    let G : Steps = let a = c.args in held_as a.g a.right.now in
-    let comparable : let a = c.args in Comparable F G a.later.0 a.more.0 a.tried = c.requires in
-    let t = c.ticks in
-    let pre = comparable in
-    let right = t.invariant.1.1 in
-    let more : ℕ = c.args.more.0 in (
-      (omega (arith, c.ticks-test.true), t.invariant.0.1),
+pub loop-s-preserved : goal.loop-s-preserved
+loop-s-preserved c =
+    let pre = c.requires in
+    let l = c.loop-s in
+    let later : ℕ = c.args.later.0 in
+    let on : l.s + later + 1 ≡ l.s + 1 + later = omega arith in
+    (
       (
-        walk_next pre.left t.invariant.1.0 c.next-arrived.ensures (omega (arith, pre.within)),
-        rw (add-one t.s) (c.next-served.ensures ∙ ap (next_walk G) right),
+        walk_next pre.left l.invariant.0.0 c.next-arrived.ensures (omega (arith, pre.within)),
+        walk_next pre.right l.invariant.0.1 c.next-served.ensures (omega (arith, pre.within, pre.later_fits)) ∙ ap (walk_at (steps_of c.args.g)) on,
       ),
-      below_more _ _ t.invariant.2 (ap₂ (λ (v w : Walk). ltb (w.value.0 + more) v.value.0) (sym t.invariant.1.0) (sym right) ∙ le-ltb _ _ c.if-allowed-value.false),
+      below_more _ _ l.invariant.1 (sym (tested _ _ _ _ l.invariant.0.0 l.invariant.0.1 c.args.more.0) ∙ le-ltb _ _ c.if-allowed-value.false),
     )
 
-pub overflow_cast-result : goal.overflow_cast-result
-overflow_cast-result c =
-    elim c.ticks-test.branch [
-      | else-ticks-test w ↦ omega (arith, c.requires.within, c.ticks.invariant.0.0)
-      | then-ticks-test+then-allowed-value w ↦ omega (arith, c.requires.within)
-    ]
+pub returns-then-allowed-value : goal.returns-then-allowed-value
+returns-then-allowed-value c =
+    let l = c.loop-s in
+    found_at _ _ _ _ l.s
+    (ap (λ (w : Walk). w.value.0) l.invariant.0.0)
+    (ap (λ (w : Walk). w.value.0 + c.args.more.0) l.invariant.0.1)
+    l.invariant.1
+    (sym (tested _ _ _ _ l.invariant.0.0 l.invariant.0.1 c.args.more.0) ∙ lt-ltb _ _ c.if-allowed-value.true)
+    (omega arith)
 
 pub returns : goal.returns
-returns c =
-    let F : Steps = let a = c.args in held_as a.f a.left.now in
-    let G : Steps = let a = c.args in held_as a.g a.right.now in
-    let later : ℕ = c.args.later.0 in
-    let comparable : let a = c.args in Comparable F G a.later.0 a.more.0 a.tried = c.requires in
-    let serves : (k : ℕ) → k ≤ c.args.tried → walk_on G c.at-served.result k ≡ walk_at G (k + later) = λ k le. let pre = comparable in
-    ap (λ (w : Walk). walk_on G w k) c.at-served.ensures ∙ walk_on_lem G pre.right.well later k (omega (arith, pre.within, pre.later_fits)) in
-    let served-value : (k : ℕ) → k ≤ c.args.tried → (walk_on G c.at-served.result k).value.0 ≡ value (curve_from G) (k + later) = λ k le. ap (λ (w : Walk). w.value.0) (serves k le) in
-    let kept : (k : ℕ) → k < c.ticks.s
-    → ltb (value (curve_from G) (k + later) + c.args.more.0) (value (curve_from F) k) ≡ false = λ k lt. ap (λ (w : ℕ). ltb (w + c.args.more.0) (value (curve_from F) k)) (sym (served-value k (omega (arith, lt, c.ticks.invariant.0.0))))
-    ∙ c.ticks.invariant.2 k lt in
-    let t = c.ticks in
-    let more : ℕ = c.args.more.0 in
-    elim c.ticks-test.branch [
-      | else-ticks-test w ↦ found_nowhere _ _ _ _ (w.found-is ∙ t.invariant.0.1) (omega (arith, w.ticks-test.false, w.s-is, t.invariant.0.0)) (λ k lt. kept k (omega (arith, lt, w.ticks-test.false)))
-      | then-ticks-test+then-allowed-value w ↦
-          let left = ap (λ (v : Walk). v.value.0) t.invariant.1.0 in
-          let right = ap (λ (v : Walk). v.value.0 + more) t.invariant.1.1 ∙ ap (λ (x : ℕ). x + more) (served-value t.s t.invariant.0.0) in
-          found_at _ _ _ _ t.s w.found-is w.s-is left right kept (ap₂ ltb (sym right) (sym left) ∙ lt-ltb _ _ w.if-allowed-value.true) w.ticks-test.true
-    ]
+returns c = found_nowhere _ _ _ _ c.loop-s.s (omega arith) c.loop-s.invariant.1

@@ -1,23 +1,17 @@
-use Prim.Native.Nat.{ℕ, ◌+◌, ◌-◌, ◌≤◌, ◌<◌}
+use Prim.Native.Nat.{ℕ, ◌+◌, ◌<◌}
 use mathlib.Core.Path.{◌≡◌}
 use mathlib.Core.Bool.{false}
 use lib.Dec.{ltb}
 use Rattle.minplus.specs.Curve.{value}
-use Rattle.curve.specs.declared.walks.Walk.{Walk}
 use Rattle.curve.specs.Steps.{curve_from}
-use Rattle.curve.specs.Held.{held_as}
-use Rattle.curve.specs.Walks.{walk_at, walk_on}
-use Rattle.search.specs.declared.Found.TheVariants.{Nowhere}
+use Rattle.curve.specs.Held.{steps_of}
+use Rattle.curve.specs.Walks.{walk_at}
+use Rattle.search.specs.Break.{allowed_by}
 use Rattle.search.proofs.bounds.first_above.Given as goal
 
--- `search::bounds::first_above` meets its contract. A turn has found nothing yet, since no tick before s passes the
--- test, and the two walks stand at s and so many ticks later.
-abbrev pub invariant-ticks : goal.invariant-ticks
-invariant-ticks l =
-    let F : ℕ → ℕ = value (curve_from (held_as l.f l.left)) in
-    let G : ℕ → Walk = walk_on (held_as l.g l.right) l.initial.served in
-    ((l.s ≤ l.tried) × (l.found ≡ Nowhere)) × ((l.arrived ≡ walk_at (held_as l.f l.left) l.s) × (l.served ≡ G l.s))
-    × ((k : ℕ) → k < l.s → ltb ((G k).value.0 + l.more.0) (F k) ≡ false)
-
-abbrev pub decreases-ticks : goal.decreases-ticks
-decreases-ticks l = l.tried - l.s
+-- The two walks stand at s and so many ticks later, and no tick before s passes the test.
+abbrev pub invariant-loop-s : goal.invariant-loop-s
+invariant-loop-s l =
+    let later : ℕ = l.fn.later.0 in
+    ((l.arrived ≡ walk_at (steps_of l.f) l.s) × (l.served ≡ walk_at (steps_of l.g) (l.s + later)))
+    × ((k : ℕ) → k < l.s → ltb (allowed_by (curve_from (steps_of l.g)) later l.more.0 k) (value (curve_from (steps_of l.f)) k) ≡ false)

@@ -2,7 +2,7 @@ use Prim.Native.Nat.{ℕ}
 use mathlib.Core.Path.{ap₂, ◌∙◌}
 use Rattle.minplus.specs.Curve.{Curve}
 use Rattle.curve.specs.Steps.{curve_from}
-use Rattle.curve.specs.Held.{held_as}
+use Rattle.curve.specs.Held.{steps_of}
 use Rattle.search.specs.Break.{above_first, bound_comparable, first_above}
 use Rattle.search.proofs.bounds.first_over.Goals as goal
 
@@ -15,7 +15,7 @@ first_above-requires c =
 pub returns : goal.returns
 returns c =
     let a = c.args in
-    let F : Curve = curve_from (held_as a.f a.left.now) in
-    let G : Curve = curve_from (held_as a.g a.right.now) in
+    let F : Curve = curve_from (steps_of a.f) in
+    let G : Curve = curve_from (steps_of a.g) in
     c.first_above.ensures ∙ ap₂ (λ (l m : ℕ). first_above F G l m a.tried) c.later_by-later.ensures c.more_by-more.ensures
     ∙ above_first a.deviation F G a.tried

@@ -1,130 +1,96 @@
-use Prim.Native.Nat.{ℕ, suc, ◌<◌}
-use mathlib.Core.Path.{◌≡◌, refl, sym, ap, ap₂, ◌∙◌}
+use Prim.Native.Nat.{ℕ, ◌+◌, ◌≤◌, ◌<◌}
+use mathlib.Core.Bool.{Bool}
+use mathlib.Core.Path.{◌≡◌, sym, ap, ap₂, ◌∙◌}
 use native.Mathlib.Omega.{arith}
 use borrow.Author.Count.{below_more, below_none}
 use borrow.Author.Tests.{eq-eqb, ne_eqb}
+use Rattle.std.proofs.Common.{rules}
 use Rattle.minplus.specs.Curve.{value, value_at_most}
 use Rattle.minplus.specs.Claim.{due}
 use Rattle.minplus.specs.Verdict.{breaks, left_at, right_at}
 use Rattle.curve.specs.declared.walks.Walk.{Walk}
-use Rattle.curve.specs.Steps.{Steps, curve_from}
-use Rattle.curve.specs.Held.{held_as}
-use Rattle.curve.specs.Walks.{walk_at, walk_able, walk_next, walk_starts}
+use Rattle.curve.specs.Steps.{Steps, Lent, curve_from}
+use Rattle.curve.specs.Held.{steps_of}
+use Rattle.curve.specs.Walks.{most, walk_at, walk_able, walk_next, walk_starts}
 use Rattle.search.specs.Found.{found_at, found_nowhere}
+use Rattle.search.specs.Beside.{GivesBeside, beside_at, beside_of, beside_due}
 use Rattle.search.specs.Break.{Searched}
-use Rattle.search.specs.Beside.{beside_at, beside_of, beside_due}
 use Rattle.search.proofs.results.first_unlike.Goals as goal
-use Rattle.search.proofs.results.first_unlike.Goals.{else-ticks-test, then-ticks-test+then-due-value}
 
-pub ticks-init : goal.ticks-init
-ticks-init c =
+-- the two values of a tick fit 64 bits, added
+sum_fits : (F G H : Steps) (n tried : ℕ) {v w : Walk} → Searched F G H tried → v ≡ walk_at F n → w ≡ walk_at G n → n < tried
+    → v.value.0 + w.value.0 ≤ most
+sum_fits F G H n tried {v} {w} pre left right lt =
+    omega (
+      arith,
+      ap (λ (x : Walk). x.value.0) left,
+      ap (λ (x : Walk). x.value.0) right,
+      value_at_most (curve_from F) pre.left.well n,
+      value_at_most (curve_from G) pre.right.well n,
+      pre.within,
+    )
+
+-- what is due at a turn
+due_is : (F G : Steps) (n : ℕ) (minimum : Bool) {v w : Walk} {r : ℕ} → r ≡ beside_at minimum v.value.0 w.value.0 → v ≡ walk_at F n → w ≡ walk_at G n
+    → r ≡ due (beside_of minimum) (value (curve_from F)) (value (curve_from G)) n
+due_is F G n minimum is left right =
+    is ∙ ap₂ (λ (x y : Walk). beside_at minimum x.value.0 y.value.0) left right ∙ beside_due minimum (value (curve_from F)) (value (curve_from G)) n
+
+pub loop-n-init : goal.loop-n-init
+loop-n-init g c =
     let a = c.args in
-    let pre = c.requires in (
-      (omega arith, refl),
+    let pre = c.requires.searched in (
       (
-        c.start-one.ensures ∙ walk_starts (held_as a.f a.left.now) pre.left.well,
-        (c.start-other.ensures ∙ walk_starts (held_as a.g a.right.now) pre.right.well, c.start-said.ensures ∙ walk_starts (held_as a.h a.claimed.now) pre.claimed.well),
+        c.start-one.ensures ∙ walk_starts (steps_of a.f) pre.left.well,
+        (c.start-other.ensures ∙ walk_starts (steps_of a.g) pre.right.well, c.start-said.ensures ∙ walk_starts (steps_of a.h) pre.claimed.well),
       ),
-      below_none _,
+      λ minimum gives. below_none _,
     )
 
 pub beside-due-requires : goal.beside-due-requires
-beside-due-requires c =
-    let F : Steps = let a = c.args in held_as a.f a.left.now in
-    let G : Steps = let a = c.args in held_as a.g a.right.now in
-    let H : Steps = let a = c.args in held_as a.h a.claimed.now in
-    let apart : Searched F G H c.args.tried = c.requires in
-    let walks : let t = c.ticks in (t.one ≡ walk_at F t.n) × ((t.other ≡ walk_at G t.n) × (t.said ≡ walk_at H t.n)) = c.ticks.invariant.1 in
-    let n : ℕ = c.ticks.n in
-    omega (
-      arith,
-      ap (λ (w : Walk). w.value.0) walks.0,
-      ap (λ (w : Walk). w.value.0) walks.1.0,
-      value_at_most (curve_from F) apart.left.well n,
-      value_at_most (curve_from G) apart.right.well n,
-      apart.within,
-    )
+beside-due-requires g c =
+    let l = c.loop-n in
+    let fits : l.one.value.0 + l.other.value.0 ≤ most = sum_fits _ _ _ l.n _ c.requires.searched l.invariant.0.0 l.invariant.0.1.0 (omega arith) in
+    search (rules, c.requires.takes _ _ fits)
 
 pub next-one-requires : goal.next-one-requires
-next-one-requires c =
-    let F : Steps = let a = c.args in held_as a.f a.left.now in
-    let G : Steps = let a = c.args in held_as a.g a.right.now in
-    let H : Steps = let a = c.args in held_as a.h a.claimed.now in
-    let apart : Searched F G H c.args.tried = c.requires in
-    let walks : let t = c.ticks in (t.one ≡ walk_at F t.n) × ((t.other ≡ walk_at G t.n) × (t.said ≡ walk_at H t.n)) = c.ticks.invariant.1 in
-    rw walks.0 (walk_able apart.left c.ticks.n (omega (arith, apart.within)))
+next-one-requires g c = rw c.loop-n.invariant.0.0 (walk_able c.requires.searched.left c.loop-n.n (omega (arith, c.requires.searched.within)))
 
 pub next-other-requires : goal.next-other-requires
-next-other-requires c =
-    let F : Steps = let a = c.args in held_as a.f a.left.now in
-    let G : Steps = let a = c.args in held_as a.g a.right.now in
-    let H : Steps = let a = c.args in held_as a.h a.claimed.now in
-    let apart : Searched F G H c.args.tried = c.requires in
-    let walks : let t = c.ticks in (t.one ≡ walk_at F t.n) × ((t.other ≡ walk_at G t.n) × (t.said ≡ walk_at H t.n)) = c.ticks.invariant.1 in
-    rw walks.1.0 (walk_able apart.right c.ticks.n (omega (arith, apart.within)))
+next-other-requires g c = rw c.loop-n.invariant.0.1.0 (walk_able c.requires.searched.right c.loop-n.n (omega (arith, c.requires.searched.within)))
 
 pub next-said-requires : goal.next-said-requires
-next-said-requires c =
-    let F : Steps = let a = c.args in held_as a.f a.left.now in
-    let G : Steps = let a = c.args in held_as a.g a.right.now in
-    let H : Steps = let a = c.args in held_as a.h a.claimed.now in
-    let apart : Searched F G H c.args.tried = c.requires in
-    let walks : let t = c.ticks in (t.one ≡ walk_at F t.n) × ((t.other ≡ walk_at G t.n) × (t.said ≡ walk_at H t.n)) = c.ticks.invariant.1 in
-    rw walks.1.1 (walk_able apart.claimed c.ticks.n (omega (arith, apart.within)))
+next-said-requires g c = rw c.loop-n.invariant.0.1.1 (walk_able c.requires.searched.claimed c.loop-n.n (omega (arith, c.requires.searched.within)))
 
-pub overflow_add-n-in-ticks : goal.overflow_add-n-in-ticks
-overflow_add-n-in-ticks c =
-    let F : Steps = let a = c.args in held_as a.f a.left.now in
-    let G : Steps = let a = c.args in held_as a.g a.right.now in
-    let H : Steps = let a = c.args in held_as a.h a.claimed.now in
-    let apart : Searched F G H c.args.tried = c.requires in
-    omega (arith, apart.within)
-
-pub ticks-preserved : goal.ticks-preserved
+pub loop-n-preserved : goal.loop-n-preserved
 unfolding breaks left_at right_at
-ticks-preserved c =
-    let F : Steps = let a = c.args in held_as a.f a.left.now in
-    let G : Steps = let a = c.args in held_as a.g a.right.now in
-    let H : Steps = let a = c.args in held_as a.h a.claimed.now in
-    let apart : Searched F G H c.args.tried = c.requires in
-    let walks : let t = c.ticks in (t.one ≡ walk_at F t.n) × ((t.other ≡ walk_at G t.n) × (t.said ≡ walk_at H t.n)) = c.ticks.invariant.1 in
-    let due-is : let minimum = c.args.minimum in
-    c.beside-due.result ≡ due (beside_of minimum) (value (curve_from F)) (value (curve_from G)) c.ticks.n = let minimum = c.args.minimum in
-    c.beside-due.ensures ∙ ap₂ (λ (v w : Walk). beside_at minimum v.value.0 w.value.0) walks.0 walks.1.0
-    ∙ beside_due minimum (value (curve_from F)) (value (curve_from G)) c.ticks.n in
-    let l = c.ticks in
-    let n : ℕ = l.n in
-    let equal = sym due-is ∙ c.if-due-value.false ∙ ap (λ (w : Walk). w.value.0) walks.1.1 in
-    let soon : suc n < 4_294_967_296 = omega (arith, apart.within) in (
-      (omega arith, l.invariant.0.1),
+loop-n-preserved g c =
+    let pre = c.requires.searched in
+    let l = c.loop-n in
+    let walks = l.invariant.0 in
+    (
       (
-        walk_next apart.left walks.0 c.next-one.ensures soon,
-        (walk_next apart.right walks.1.0 c.next-other.ensures soon, walk_next apart.claimed walks.1.1 c.next-said.ensures soon),
+        walk_next pre.left walks.0 c.next-one.ensures (omega (arith, pre.within)),
+        (walk_next pre.right walks.1.0 c.next-other.ensures (omega (arith, pre.within)), walk_next pre.claimed walks.1.1 c.next-said.ensures (omega (arith, pre.within))),
       ),
-      below_more _ _ l.invariant.2 (rw (eq-eqb _ _ equal)),
+      λ minimum gives.
+          let fits : l.one.value.0 + l.other.value.0 ≤ most = sum_fits _ _ _ l.n _ pre walks.0 walks.1.0 (omega arith) in
+          let is = due_is _ _ _ minimum (gives _ _ _ fits c.beside-due.ensures) walks.0 walks.1.0 in
+          below_more _ _ (l.invariant.1 minimum gives) (rw (eq-eqb _ _ (sym is ∙ c.if-due-value.false ∙ ap (λ (w : Walk). w.value.0) walks.1.1))),
     )
 
-pub overflow_cast-result : goal.overflow_cast-result
-overflow_cast-result c =
-    elim c.ticks-test.branch [
-      | else-ticks-test w ↦ omega (arith, c.requires.within, c.ticks.invariant.0.0)
-      | then-ticks-test+then-due-value w ↦ omega (arith, c.requires.within)
-    ]
+pub returns-then-due-value : goal.returns-then-due-value
+unfolding breaks left_at right_at
+returns-then-due-value g c =
+    let l = c.loop-n in
+    let walks = l.invariant.0 in
+    λ minimum gives.
+    let fits : l.one.value.0 + l.other.value.0 ≤ most = sum_fits _ _ _ l.n _ c.requires.searched walks.0 walks.1.0 (omega arith) in
+    let e = due_is _ _ _ minimum (gives _ _ _ fits c.beside-due.ensures) walks.0 walks.1.0 in
+    let value-is = ap (λ (w : Walk). w.value.0) walks.1.1 in
+    found_at _ _ _ _ l.n e value-is (l.invariant.1 minimum gives)
+    (rw (ne_eqb _ _ (λ same. c.if-due-value.true (e ∙ same ∙ sym value-is)))) (omega arith)
 
 pub returns : goal.returns
 unfolding breaks left_at right_at
-returns c =
-    let F : Steps = held_as c.args.f c.args.left.now in
-    let G : Steps = held_as c.args.g c.args.right.now in
-    let l = c.ticks in
-    let minimum = c.args.minimum in
-    elim c.ticks-test.branch [
-      | else-ticks-test w ↦ found_nowhere _ _ _ _ (w.found-is ∙ l.invariant.0.1) (omega (arith, w.ticks-test.false, w.n-is, l.invariant.0.0)) (λ k lt. l.invariant.2 k (omega (arith, lt, w.ticks-test.false)))
-      | then-ticks-test+then-due-value w ↦
-          let e : w.beside-due.result ≡ due (beside_of minimum) (value (curve_from F)) (value (curve_from G)) l.n =
-          w.beside-due.ensures ∙ ap₂ (λ (v v' : Walk). beside_at minimum v.value.0 v'.value.0) l.invariant.1.0 l.invariant.1.1.0
-          ∙ beside_due minimum (value (curve_from F)) (value (curve_from G)) l.n in
-          let value-is = ap (λ (v : Walk). v.value.0) l.invariant.1.1.1 in
-          found_at _ _ _ _ l.n w.found-is w.n-is e value-is l.invariant.2
-          (rw (ne_eqb _ _ (λ same. w.if-due-value.true (e ∙ same ∙ sym value-is)))) w.ticks-test.true
-    ]
+returns g c = λ minimum gives. found_nowhere _ _ _ _ c.loop-n.n (omega arith) (c.loop-n.invariant.1 minimum gives)
