@@ -1,4 +1,4 @@
-use Prim.Native.Nat.{ℕ, ◌+◌, ◌≤◌, ◌<◌}
+use Prim.Native.Nat.{ℕ, ◌+◌}
 use mathlib.Core.Path.{◌≡◌, sym, ap, ap₂, ◌∙◌}
 use native.Mathlib.Omega.{arith}
 use lib.Dec.{ltb}
@@ -20,8 +20,7 @@ tested F G s later left right more = ap₂ (λ (x y : Walk). ltb (y.value.0 + mo
 pub loop-s-init : goal.loop-s-init
 loop-s-init c =
     let pre = c.requires in
-    let later : ℕ = c.args.later.0 in
-    (
+    let later : ℕ = c.args.later.0 in (
       (
         c.start-arrived.ensures ∙ walk_starts (steps_of c.args.f) pre.left.well,
         c.at-served.ensures ∙ walk_begins (steps_of c.args.g) pre.right.well later (omega (arith, pre.later_fits)) ∙ ap (walk_at (steps_of c.args.g)) (omega arith),
@@ -57,8 +56,7 @@ loop-s-preserved c =
     let pre = c.requires in
     let l = c.loop-s in
     let later : ℕ = c.args.later.0 in
-    let on : l.s + later + 1 ≡ l.s + 1 + later = omega arith in
-    (
+    let on : l.s + later + 1 ≡ l.s + 1 + later = omega arith in (
       (
         walk_next pre.left l.invariant.0.0 c.next-arrived.ensures (omega (arith, pre.within)),
         walk_next pre.right l.invariant.0.1 c.next-served.ensures (omega (arith, pre.within, pre.later_fits)) ∙ ap (walk_at (steps_of c.args.g)) on,

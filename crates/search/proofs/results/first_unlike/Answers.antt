@@ -9,11 +9,11 @@ use Rattle.minplus.specs.Curve.{value, value_at_most}
 use Rattle.minplus.specs.Claim.{due}
 use Rattle.minplus.specs.Verdict.{breaks, left_at, right_at}
 use Rattle.curve.specs.declared.walks.Walk.{Walk}
-use Rattle.curve.specs.Steps.{Steps, Lent, curve_from}
+use Rattle.curve.specs.Steps.{Steps, curve_from}
 use Rattle.curve.specs.Held.{steps_of}
 use Rattle.curve.specs.Walks.{most, walk_at, walk_able, walk_next, walk_starts}
 use Rattle.search.specs.Found.{found_at, found_nowhere}
-use Rattle.search.specs.Beside.{GivesBeside, beside_at, beside_of, beside_due}
+use Rattle.search.specs.Beside.{beside_at, beside_of, beside_due}
 use Rattle.search.specs.Break.{Searched}
 use Rattle.search.proofs.results.first_unlike.Goals as goal
 
@@ -67,8 +67,7 @@ unfolding breaks left_at right_at
 loop-n-preserved g c =
     let pre = c.requires.searched in
     let l = c.loop-n in
-    let walks = l.invariant.0 in
-    (
+    let walks = l.invariant.0 in (
       (
         walk_next pre.left walks.0 c.next-one.ensures (omega (arith, pre.within)),
         (walk_next pre.right walks.1.0 c.next-other.ensures (omega (arith, pre.within)), walk_next pre.claimed walks.1.1 c.next-said.ensures (omega (arith, pre.within))),
