@@ -1,11 +1,13 @@
-// A stream read into lent bytes, for the programs.
+// A stream or a file read into lent bytes, for the programs.
 #![tactic(auto)]
 
 ghost use Rattle.std.specs.Prelude.{◌<◌, IfOk, length, take};
 ghost use Rattle.std.specs.Io.{ReadsAtMost};
 ghost use Rattle.std.specs.Io.KnownBytes.{Consumes, IsAtEnd};
 
+use std::fs;
 use std::io::{Read, Result};
+use std::rt::Files;
 
 // Reads until the bytes are full or the stream is at its end, and answers how many were read. The first clause says
 // what `&buf[..n]` asks; the others, of a reader whose bytes are known, that these are the next n of them, and that
@@ -15,7 +17,8 @@ pub fn read_full<R: Read>(from: &mut R, buf: &mut [u8]) -> Result<usize>
     ensures bytes { IfOk result (λ n. Consumes (R.remaining from.old) (R.remaining from.new) (take n buf.new)) }
     ensures end { IfOk result (λ n. n < length buf.new → IsAtEnd (R.remaining from.new)) }
 {
-    let mut done: usize = 0;
+    let mut done = 0;
+    // No `for`: how many a turn reads is the reader's.
     while done < buf.len() {
         let n = from.read(&mut buf[done..])?;
         if n == 0 {
@@ -24,4 +27,17 @@ pub fn read_full<R: Read>(from: &mut R, buf: &mut [u8]) -> Result<usize>
         done += n;
     }
     Ok(done)
+}
+
+// The bytes of a file, as many as there is room for. None where there is no such file; a name that is no text names
+// none.
+pub fn read_file<'a>(rt: &impl Files, name: &[u8], room: &'a mut [u8]) -> Result<Option<&'a [u8]>> {
+    let Ok(name) = str::from_utf8(name) else {
+        return Ok(None);
+    };
+    let Ok(mut file) = fs::open(rt, name) else {
+        return Ok(None);
+    };
+    let n = read_full(&mut file, room)?;
+    Ok(Some(&room[..n]))
 }

@@ -2,7 +2,7 @@
 #![tactic(auto)]
 
 ghost use Rattle.std.specs.Prelude.{◌≤◌, min, ◌≡◌, length};
-ghost use Rattle.lines.specs.Parts.{Ends, place_from, with_digit, past_space, number_from};
+ghost use Rattle.lines.specs.Parts.{Ends, is_case, place_from, with_digit, past_space, number_from};
 
 // A number and the place after it.
 #[derive(Clone, Copy)]
@@ -11,19 +11,28 @@ pub struct Number {
     pub next: usize,
 }
 
+// Whether a line asks something: an empty one does not, nor one that begins with #.
+pub fn is_case(line: &[u8]) -> bool
+    ensures { result ≡ is_case line.now }
+{
+    match line {
+        [] => false,
+        [first, ..] => *first != b'#',
+    }
+}
+
 // The place of a byte from `from` on, or the end, also where `from` is past it. The first two say what `&s[from..r]`
 // and `&s[..r]` ask.
+#[tactic(auto, using(crate::specs::Parts::place_laws))]
 pub fn find(s: &[u8], from: usize, byte: u8) -> usize
     ensures lower_bound { min from (length s.now) ≤ result }
     ensures ends { Ends result s.now }
     ensures value { result ≡ place_from byte s.now from }
 {
-    let mut i = from;
-    while i < s.len() {
+    for i in from..s.len() {
         if s[i] == byte {
             return i;
         }
-        i += 1;
     }
     s.len()
 }
@@ -32,43 +41,28 @@ pub fn find(s: &[u8], from: usize, byte: u8) -> usize
 pub fn past_space(s: &[u8], from: usize) -> usize
     ensures { result ≡ past_space s.now from }
 {
-    if from < s.len() {
-        if s[from] == b' ' {
-            return from + 1;
-        }
+    match s.get(from) {
+        Some(b' ') => from + 1,
+        _ => from,
     }
-    from
 }
 
 // What 64 bits don't hold becomes the largest number that they do.
 fn with_digit(value: u64, digit: u8) -> u64
     ensures { result ≡ with_digit value digit }
 {
-    if u64::MAX / 10 < value {
-        return u64::MAX;
-    }
-    let tens = value * 10;
-    if u64::MAX - tens < digit as u64 {
-        return u64::MAX;
-    }
-    tens + digit as u64
+    value.saturating_mul(10).saturating_add(u64::from(digit))
 }
 
 // 0 where no digit stands.
+#[tactic(auto, using(crate::specs::Parts::number_laws))]
 pub fn digits(s: &[u8], from: usize) -> Number
     ensures { result ≡ number_from 0 s.now from }
 {
-    let mut value: u64 = 0;
+    let mut value = 0;
     let mut next = from;
-    while next < s.len() {
-        let c = s[next];
-        if c < b'0' {
-            break;
-        }
-        if b'9' < c {
-            break;
-        }
-        value = with_digit(value, c - b'0');
+    while let Some(c @ b'0'..=b'9') = s.get(next) {
+        value = with_digit(value, *c - b'0');
         next += 1;
     }
     Number { value, next }
