@@ -1,7 +1,7 @@
 -- Laws that several functions' proofs cite.
 --
---     all_kept, all_lost    a test that is tried at 0, 1, 2 and so on: after a place that passes it, and after one that
---                           does not
+--     fits, rises           a value that is within the limit, and one that is not above the next
+--     all_next              a test that is tried at 0, 1, 2 and so on, after one place more
 --     filled_on             an array that is filled so far is filled further, where 0 is stored
 --     part_number           a number in a part of some bytes that it fills
 --     left_over             a sum is above a limit exactly when one part is above what the other leaves of it
@@ -12,29 +12,24 @@ use native.Mathlib.Omega.{arith}
 use native.Mathlib.Numerals.{add-one}
 use mathlib.Core.List.{List, [], ◌∷◌, ◌++◌}
 use native.Mathlib.Decide.{dec_le}
-use lib.ListN.{length, take, drop, replicate, length-append, length-drop}
+use lib.ListN.{length, get_or, take, drop, replicate, length-append, length-drop}
 use lib.Seq.{append_snoc, length-take-le, take_all}
-use lib.Dec.{ltb}
+use lib.Dec.{leb, ltb}
 use borrow.Author.Tests.{lt-ltb, le-ltb, ltb-true, ltb-false}
+use Rattle.minplus.specs.Curve.{max_units}
 use Rattle.minplus.specs.Search.{all_below}
 use Rattle.curve.specs.Filled.{list_of, filled, length-list_of}
 use Rattle.numbers.specs.Numbers.{number_after, number_at, number_whole}
 
-pub all_kept : (p : ℕ → Bool) (n : ℕ) → p n ≡ true → all_below p (n + 1) ≡ all_below p n
-unfolding all_below
-all_kept p n here = rw (add-one n, here) (go (all_below p n))
-  where
-    go : (b : Bool) → b && true ≡ b
-    go true = refl
-    go false = refl
+abbrev pub fits : List ℕ → ℕ → Bool
+fits values n = leb (get_or values n 0) max_units
 
-pub all_lost : (p : ℕ → Bool) (n : ℕ) → p n ≡ false → all_below p (n + 1) ≡ false
+abbrev pub rises : List ℕ → ℕ → Bool
+rises values n = leb (get_or values n 0) (get_or values (suc n) 0)
+
+pub all_next : (p : ℕ → Bool) (n : ℕ) → all_below p n && p n ≡ all_below p (n + 1)
 unfolding all_below
-all_lost p n here = rw (add-one n, here) (go (all_below p n))
-  where
-    go : (b : Bool) → b && false ≡ false
-    go true = refl
-    go false = refl
+all_next p n = rw (add-one n)
 
 pub left_over : (limit a b : ℕ) → a ≤ limit → ltb (limit - a) b ≡ ltb limit (a + b)
 left_over limit a b le = go (ltb (limit - a) b) refl

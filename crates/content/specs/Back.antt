@@ -6,7 +6,7 @@
 --     claim_back, claim_taken, claim_again     the same for a claim, of at most 256 curves
 --     bytes_curve, bytes-claim     what is written is bytes
 use Prim.Native.Nat.{ℕ, zero, suc, ◌+◌, ◌*◌, ◌^◌, ◌≤◌, ◌<◌}
-use Rattle.std.specs.Prelude.{◌≡◌, refl, false, not, take, drop, get_or, ltb, eqb}
+use Rattle.std.specs.Prelude.{◌≡◌, refl, false, not, take, drop, get_or, ltb, eqb, Ok}
 use Rattle.std.proofs.Common.{sym, ap₂, ◌∙◌, take_all, take-add, drop-drop, ext_get_or}
 use Rattle.std.proofs.Math.Path.{ap}
 use mathlib.Core.List.{List, [], ◌∷◌, ◌++◌, flat_map, append-nil}
@@ -22,8 +22,8 @@ use Rattle.numbers.specs.Put.{bytes_of, length-bytes}
 use Rattle.numbers.specs.Back.{Bytes, bytes-append, bytes_flat, length_then, number_on}
 use Rattle.numbers.proofs.HighFirst.{bytes_of_lem, number_front, bytes_again, bytes_then}
 use Rattle.content.specs.declared.Refusal.TheVariants.{CurveLength, CurvePeriod, WrongClaim}
-use Rattle.content.specs.declared.Checked.TheVariants.{Sound}
-use Rattle.content.specs.Layout.{rank_in, period_in, increment_in, count_in, curve_head, value_in, curve_in, values_bytes, curve_bytes, Statement, id_in, third_width, claim_in, claim_length, claim_bytes, third_small}
+use Rattle.content.specs.declared.Statement.{Statement}
+use Rattle.content.specs.Layout.{rank_in, period_in, increment_in, count_in, curve_head, value_in, curve_in, values_bytes, curve_bytes, id_in, third_width, claim_in, claim_length, claim_bytes, third_small}
 use Rattle.content.specs.Refusals.{on, no_span, curve_fault, last_id, far_x, statement_fault, claim_fault, on_sound}
 use Rattle.content.specs.Sound.{well_span, well_limits, WellStated, well_stated, claim_sound}
 
@@ -103,7 +103,7 @@ module _ (f : Curve) (w : WellFormed f) where
   pub curve_back : curve_in (curve_bytes f) ≡ f
   curve_back = λ i. record { rank = rank_back i; period = period_back i; increment = increment_back i; listed = listed_back i }
 
-  pub curve_taken : curve_fault (curve_bytes f) ≡ Sound
+  pub curve_taken : curve_fault (curve_bytes f) ≡ Ok tt
   unfolding curve_fault
   curve_taken =
       let long : length bytes ≡ curve_head + 4 * count f = length_curve f ∙ ap (λ (k : ℕ). curve_head + 4 * k) w.listed_whole in
@@ -127,7 +127,7 @@ bytes_curve f =
     bytes-append (bytes_of 2 f.rank) _ (bytes_of_lem 2 f.rank)
     (bytes-append (bytes_of 2 f.period) _ (bytes_of_lem 2 f.period) (bytes-append (bytes_of 4 f.increment) _ (bytes_of_lem 4 f.increment) (bytes_flat (bytes_of 4) (bytes_of_lem 4) f.listed)))
 
-pub curve_again : (content : List ℕ) → Bytes content → curve_fault content ≡ Sound → curve_bytes (curve_in content) ≡ content
+pub curve_again : (content : List ℕ) → Bytes content → curve_fault content ≡ Ok tt → curve_bytes (curve_in content) ≡ content
 unfolding curve_fault curve_bytes
 curve_again content small e =
     let t₁ = on_sound (ltb (length content) curve_head) CurveLength _ e in
@@ -204,13 +204,13 @@ module _ {curves : ℕ} (c : Statement) (few : curves ≤ 256) (w : WellStated c
   pub claim_back : claim_in (claim_bytes c) ≡ c
   claim_back = λ i. record { kind = kind_back i; left = left_back i; right = right_back i; third = third_back i }
 
-  pub claim_taken : claim_fault curves (claim_bytes c) ≡ Sound
+  pub claim_taken : claim_fault curves (claim_bytes c) ≡ Ok tt
   unfolding claim_fault
   claim_taken =
       ap (λ (d : Statement). on (not (eqb (length claim) (claim_length d.kind))) WrongClaim (statement_fault curves d)) claim_back
       ∙ rw (eq-eqb (length claim) (claim_length c.kind) (length-claim c)) ((well_stated curves c).1 w)
 
-pub claim_again : (curves : ℕ) (content : List ℕ) → Bytes content → claim_fault curves content ≡ Sound → claim_bytes (claim_in content) ≡ content
+pub claim_again : (curves : ℕ) (content : List ℕ) → Bytes content → claim_fault curves content ≡ Ok tt → claim_bytes (claim_in content) ≡ content
 unfolding claim_bytes
 claim_again curves content small e =
     let c : Statement = claim_in content in

@@ -4,7 +4,8 @@
 --     count_in, value_in, curve_in    (curve_head: the bytes of T, d and c; whole_in: how many values are all there;
 --                                     value_missing: the others are 0)
 --     curve_bytes, values_bytes       the same, written
---     Statement, claim_in             "02: kind, left, right (1 each), then h (1) for kinds 1 to 3 or X (4) for 4 to
+--     listed_of                       the curve of a list as it is lent
+--     claim_in                        "02: kind, left, right (1 each), then h (1) for kinds 1 to 3 or X (4) for 4 to
 --                                     7": read from a content
 --     third_width, claim_length       (at most 4: third_small; width_of: by the kind, third_in)
 --     claim_bytes                     the same, written
@@ -18,6 +19,8 @@ use Rattle.minplus.specs.Claim.{Kind, at_most, backlog, bound, convolution, dela
 use Rattle.curve.specs.Filled.{list_of}
 use Rattle.numbers.specs.Numbers.{number_at, number_torn}
 use Rattle.numbers.specs.Put.{bytes_of}
+use Rattle.content.specs.declared.Listed.{Listed}
+use Rattle.content.specs.declared.Statement.{Statement}
 
 -- ---- curve
 
@@ -53,6 +56,10 @@ curve_in content = record {
   listed = list_of (value_in content) (count_in content);
 }
 
+-- a list as it is lent
+abbrev pub listed_of : Listed → Curve
+listed_of f = record { rank = f.rank; period = f.period; increment = f.increment; listed = f.values.now }
+
 abbrev pub values_bytes : List ℕ → List ℕ
 values_bytes values = flat_map (bytes_of 4) values
 
@@ -61,13 +68,6 @@ unfolding flat_map
 curve_bytes f = bytes_of 2 f.rank ++ (bytes_of 2 f.period ++ (bytes_of 4 f.increment ++ values_bytes f.listed))
 
 -- ---- claim
-
--- a claim by its numbers: the third is h or X
-pub record Statement : Type 0 where
-  pub kind : ℕ
-  pub left : ℕ
-  pub right : ℕ
-  pub third : ℕ
 
 -- "h (1) for kinds 1 to 3 or X (4) for 4 to 7"
 unfoldable pub third_width : ℕ → ℕ

@@ -1,6 +1,7 @@
 -- Why a content is refused. Document 01, 'Refusal numbers', from "then by tag" on, for curves and claims.
 --
 --     number_of              the number of each refusal
+--     Checked                what a check of a content finds: nothing, or a refusal
 --     on                     a test that refuses, before what is tried after it
 --     no_span, limit_fault   what is refused of a curve by its numbers, over values_fit, values_rise and seam_holds
 --     listed_fault           a curve and a list of values, as the writer gets them; curve_fault: a content, as the
@@ -11,7 +12,7 @@
 --     statement_field, claim_field     the same, with what is stated where nothing is refused (stated, stated_or)
 --     on_sound, or_false     what is known where nothing was refused; claim_odd, claim_whole: by the length of a
 --                            claim's content
-use Rattle.std.specs.Prelude.{ℕ, suc, ◌+◌, ◌-◌, ◌*◌, ◌≡◌, refl, Bool, true, false, ◌||◌, not, List, length, get_or, leb, ltb, eqb}
+use Rattle.std.specs.Prelude.{ℕ, suc, ◌+◌, ◌-◌, ◌*◌, ◌≡◌, refl, Bool, true, false, ◌||◌, not, List, length, get_or, leb, ltb, eqb, Result, Ok, Err}
 use Rattle.std.proofs.Common.{true≢false, eq-eqb, ne_eqb}
 use Rattle.std.proofs.Math.Option.{Option, none, some}
 use Rattle.minplus.specs.Curve.{Curve, count, max_listed, max_units, seam_holds}
@@ -21,12 +22,9 @@ use Rattle.curve.specs.Filled.{list_of}
 use Rattle.curve.specs.Kinds.{claim_with}
 use Rattle.content.specs.declared.Refusal.{Refusal}
 use Rattle.content.specs.declared.Refusal.TheVariants.{Torn, UnknownTag, OutOfOrder, TooMany, WrongVersion, CurveLength, CurvePeriod, TooManyUnits, CurveFalls, WrongClaim, NoSuchCurve, TooLarge, WrongEnd, NoRoom, BookTooLong}
-use Rattle.content.specs.declared.Checked.{Checked}
-use Rattle.content.specs.declared.Checked.TheVariants.{Sound, Refused}
 use Rattle.content.specs.declared.Stated.{Stated}
-use Rattle.content.specs.declared.ClaimField.{ClaimField}
-use Rattle.content.specs.declared.ClaimField.TheVariants as claim-field
-use Rattle.content.specs.Layout.{rank_in, period_in, count_in, curve_head, curve_in, Statement, third_width, claim_in, claim_length}
+use Rattle.content.specs.declared.Statement.{Statement}
+use Rattle.content.specs.Layout.{rank_in, period_in, count_in, curve_head, curve_in, third_width, claim_in, claim_length}
 
 unfoldable pub number_of : Refusal → ℕ
 number_of Torn = 1
@@ -45,8 +43,12 @@ number_of WrongEnd = 13
 number_of NoRoom = 14
 number_of BookTooLong = 15
 
-abbrev pub on : Bool → Refusal → Checked → Checked
-on true x after = Refused x
+-- what a check of a content finds
+abbrev pub Checked : Type 0
+Checked = Result (Unit {0}) Refusal
+
+abbrev pub on : {A : Type 0} → Bool → Refusal → Result A Refusal → Result A Refusal
+on true x after = Err x
 on false x after = after
 
 -- ---- curve
@@ -70,7 +72,7 @@ unfolding values_fit values_rise
 limit_fault f =
     on (ltb max_units f.increment || not (values_fit f.listed)) TooManyUnits
     (on (not (values_rise f.listed) || not (seam_holds f)) CurveFalls
-    Sound)
+    (Ok tt))
 
 -- written: "7, 6 (the list isn't T+d values), 8, 9 for a curve"
 unfoldable pub listed_fault : Curve → Checked
@@ -112,12 +114,12 @@ unfolding none_named far_x
 kind_fault κ curves c =
     on (none_named curves c.left c.right (last_id κ c)) NoSuchCurve
     (on (far_x κ c) TooLarge
-    Sound)
+    (Ok tt))
 
 -- written: "10, 11, 12 for a claim .. An unknown kind is 10"
 unfoldable pub statement_fault : ℕ → Statement → Checked
 unfolding kind_fault
-statement_fault curves c = elim (kind_by c.kind) [ none ↦ Refused WrongClaim | some κ ↦ kind_fault κ curves c ]
+statement_fault curves c = elim (kind_by c.kind) [ none ↦ Err WrongClaim | some κ ↦ kind_fault κ curves c ]
 
 -- read: "10 empty, unknown kind or wrong length; 11 an id that names no curve; 12 X too large". An empty content has
 -- not the length of its kind, which is read as 0
@@ -137,27 +139,27 @@ claimed_of (bound δ t) c = 0
 abbrev pub stated_of : Kind → Statement → Stated
 stated_of κ c = record { claim = claim_with κ c.third; left = c.left; right = c.right; claimed = claimed_of κ c }
 
-abbrev pub stated_or : Checked → Stated → ClaimField
-stated_or (Refused x) st = claim-field.Refused x
-stated_or Sound st = claim-field.Stated st
+abbrev pub stated_or : Checked → Stated → Result Stated Refusal
+stated_or (Err x) st = Err x
+stated_or (Ok sound) st = Ok st
 
-unfoldable pub stated : Option Kind → ℕ → Statement → ClaimField
+unfoldable pub stated : Option Kind → ℕ → Statement → Result Stated Refusal
 unfolding kind_fault
-stated none curves c = claim-field.Refused WrongClaim
+stated none curves c = Err WrongClaim
 stated (some κ) curves c = stated_or (kind_fault κ curves c) (stated_of κ c)
 
-unfoldable pub statement_field : ℕ → Statement → ClaimField
+unfoldable pub statement_field : ℕ → Statement → Result Stated Refusal
 unfolding stated
 statement_field curves c = stated (kind_by c.kind) curves c
 
-unfoldable pub claim_field : ℕ → List ℕ → ClaimField
+unfoldable pub claim_field : ℕ → List ℕ → Result Stated Refusal
 unfolding statement_field third_width
 claim_field curves content =
-    elim (eqb (length content) (claim_length (claim_in content).kind)) [ true ↦ statement_field curves (claim_in content) | false ↦ claim-field.Refused WrongClaim ]
+    elim (eqb (length content) (claim_length (claim_in content).kind)) [ true ↦ statement_field curves (claim_in content) | false ↦ Err WrongClaim ]
 
 -- ---- laws
 
-pub on_sound : (b : Bool) (x : Refusal) (later : Checked) → on b x later ≡ Sound → (b ≡ false) × (later ≡ Sound)
+pub on_sound : {A : Type 0} (b : Bool) (x : Refusal) (later : Result A Refusal) {a : A} → on b x later ≡ Ok a → (b ≡ false) × (later ≡ Ok a)
 on_sound true x later e = (cc, cc)
 on_sound false x later e = (refl, e)
 
@@ -166,7 +168,7 @@ or_false true b e = absurd (true≢false e)
 or_false false b e = (refl, e)
 
 -- a claim's content that has not the length of its kind, and one that has
-pub claim_odd : (curves : ℕ) (content : List ℕ) → ¬ (length content ≡ claim_length (claim_in content).kind) → claim_field curves content ≡ claim-field.Refused WrongClaim
+pub claim_odd : (curves : ℕ) (content : List ℕ) → ¬ (length content ≡ claim_length (claim_in content).kind) → claim_field curves content ≡ Err WrongClaim
 unfolding claim_field
 claim_odd curves content odd = rw (ne_eqb (length content) (claim_length (claim_in content).kind) odd, claim_field)
 

@@ -8,7 +8,7 @@
 --     claim_sound           a claim's content that is not refused has the length of its kind, and is such a claim
 --     Stands                a claim's content states a claim of curves that the book has, with an X within its limit
 --                           (claim_stands)
-use Rattle.std.specs.Prelude.{ℕ, suc, ◌*◌, ◌+◌, ◌-◌, ◌≤◌, ◌<◌, ◌≡◌, refl, Bool, false, ◌||◌, List, ◌↔◌, length, leb, ltb, eqb}
+use Rattle.std.specs.Prelude.{ℕ, suc, ◌*◌, ◌+◌, ◌-◌, ◌≤◌, ◌<◌, ◌≡◌, refl, Bool, false, ◌||◌, List, ◌↔◌, length, leb, ltb, eqb, Ok, Err}
 use Rattle.std.proofs.Common.{ap, ◌∙◌, arith}
 use Rattle.std.proofs.Math.Bool.{true, not}
 use Rattle.std.proofs.Math.Option.{Option, none, some}
@@ -19,12 +19,10 @@ use Rattle.minplus.specs.Curve.{Curve, WellFormed, count, listed_at, max_listed,
 use Rattle.curve.specs.Kinds.{claim_with, x_of}
 use Rattle.curve.specs.Filled.{length-list_of}
 use Rattle.content.specs.declared.Refusal.TheVariants.{CurveLength, CurvePeriod, TooManyUnits, CurveFalls, WrongClaim, NoSuchCurve, TooLarge}
-use Rattle.content.specs.declared.Checked.{Checked}
-use Rattle.content.specs.declared.Checked.TheVariants.{Sound, Refused}
 use Rattle.content.specs.declared.Stated.{Stated}
-use Rattle.content.specs.declared.ClaimField.TheVariants as claim-field
-use Rattle.content.specs.Layout.{rank_in, period_in, count_in, curve_head, value_in, curve_in, Statement, claim_in, claim_length}
-use Rattle.content.specs.Refusals.{no_span, values_fit, values_rise, limit_fault, listed_fault, curve_fault, none_named, last_id, far_x, kind_fault, statement_fault, claim_fault, claimed_of, stated_of, stated_or, stated, statement_field, claim_field, on_sound, or_false, claim_whole}
+use Rattle.content.specs.declared.Statement.{Statement}
+use Rattle.content.specs.Layout.{rank_in, period_in, count_in, curve_head, value_in, curve_in, claim_in, claim_length}
+use Rattle.content.specs.Refusals.{Checked, no_span, values_fit, values_rise, limit_fault, listed_fault, curve_fault, none_named, last_id, far_x, kind_fault, statement_fault, claim_fault, claimed_of, stated_of, stated_or, stated, statement_field, claim_field, on_sound, or_false, claim_whole}
 
 -- ---- curves
 
@@ -42,7 +40,7 @@ module _ (f : Curve) where
   rise n = leb (listed_at f n) (listed_at f (suc n))
 
   -- what the tests tell, once the list is T+d values
-  well : no_span f.rank f.period ≡ false → length f.listed ≡ count f → limit_fault f ≡ Sound → WellFormed f
+  well : no_span f.rank f.period ≡ false → length f.listed ≡ count f → limit_fault f ≡ Ok tt → WellFormed f
   unfolding limit_fault
   well span whole limits =
       let spans = span_fits f.rank f.period span in
@@ -70,14 +68,14 @@ module _ (f : Curve) where
     unfolding no_span
     well_span = rw (ne_eqb f.period 0 (λ e. omega (arith, e, w.period_positive)), le-ltb max_listed (count f) w.count_fits)
 
-    pub well_limits : limit_fault f ≡ Sound
+    pub well_limits : limit_fault f ≡ Ok tt
     unfolding limit_fault
     well_limits =
         let fits : values_fit f.listed ≡ true = (all_below_lem fit (length f.listed)).1 (λ n lt. le-leb _ _ (w.values_fit_lem n (omega (arith, w.listed_whole, lt)))) in
         let rises : values_rise f.listed ≡ true = (all_below_lem rise (length f.listed - 1)).1 (λ n lt. le-leb _ _ (w.rises.listed-rise n (omega (arith, w.listed_whole, lt)))) in
         rw (le-ltb max_units f.increment w.increment_fits, fits, rises, le-leb _ _ w.rises.seam_holds_lem)
 
-pub listed_well : (f : Curve) → (listed_fault f ≡ Sound) ↔ WellFormed f
+pub listed_well : (f : Curve) → (listed_fault f ≡ Ok tt) ↔ WellFormed f
 unfolding listed_fault
 listed_well f = (
   λ e.
@@ -87,7 +85,7 @@ listed_well f = (
   λ w. rw (well_span f w, eq-eqb (length f.listed) (count f) w.listed_whole) (well_limits f w),
 )
 
-pub curve_well_formed : (content : List ℕ) → curve_fault content ≡ Sound → WellFormed (curve_in content)
+pub curve_well_formed : (content : List ℕ) → curve_fault content ≡ Ok tt → WellFormed (curve_in content)
 unfolding curve_fault
 curve_well_formed content e =
     let t₁ = on_sound (ltb (length content) curve_head) CurveLength _ e in
@@ -105,14 +103,14 @@ pub record WellStated (curves : ℕ) (c : Statement) : Type 0 where
   pub last_named : last_id kind c < curves
   pub x_near : far_x kind c ≡ false
 
-pub well_stated : (curves : ℕ) (c : Statement) → (statement_fault curves c ≡ Sound) ↔ WellStated curves c
+pub well_stated : (curves : ℕ) (c : Statement) → (statement_fault curves c ≡ Ok tt) ↔ WellStated curves c
 unfolding statement_fault kind_fault none_named
 well_stated curves c = (
   by_kind (kind_by c.kind) refl,
   λ w. rw (w.known, statement_fault, lt-leb _ _ w.left_named, lt-leb _ _ w.right_named, lt-leb _ _ w.last_named, w.x_near),
 )
   where
-    by_kind : (κ : Option Kind) → kind_by c.kind ≡ κ → elim κ as (λ _. Checked) [ none ↦ Refused WrongClaim | some κ ↦ kind_fault κ curves c ] ≡ Sound → WellStated curves c
+    by_kind : (κ : Option Kind) → kind_by c.kind ≡ κ → elim κ as (λ _. Checked) [ none ↦ Err WrongClaim | some κ ↦ kind_fault κ curves c ] ≡ Ok tt → WellStated curves c
     by_kind none is e = let z : ◌≡◌ {A = ℕ} 0 1 = cc in absurd (omega (arith, z))
     by_kind (some κ) is e =
         let t₁ = on_sound (none_named curves c.left c.right (last_id κ c)) NoSuchCurve _ e in
@@ -130,7 +128,7 @@ well_stated curves c = (
 
 -- ---- a claim's content
 
-pub claim_sound : (curves : ℕ) (content : List ℕ) → claim_fault curves content ≡ Sound
+pub claim_sound : (curves : ℕ) (content : List ℕ) → claim_fault curves content ≡ Ok tt
     → (length content ≡ claim_length (claim_in content).kind) × WellStated curves (claim_in content)
 unfolding claim_fault
 claim_sound curves content e =
@@ -139,19 +137,19 @@ claim_sound curves content e =
 
 pub record Stands (curves : ℕ) (content : List ℕ) : Type 0 where
   pub stated : Stated
-  pub so : claim_field curves content ≡ claim-field.Stated stated
+  pub so : claim_field curves content ≡ Ok stated
   pub left_named : stated.left < curves
   pub right_named : stated.right < curves
   pub claimed_named : stated.claimed < curves
   pub x_fits : x_of stated.claim ≤ max_x
 
-pub claim_stands : (curves : ℕ) (content : List ℕ) → claim_fault curves content ≡ Sound → Stands curves content
+pub claim_stands : (curves : ℕ) (content : List ℕ) → claim_fault curves content ≡ Ok tt → Stands curves content
 unfolding claim_field statement_field statement_fault far_x
 claim_stands curves content e =
     let c : Statement = claim_in content in
     let told = claim_sound curves content e in
     let w = told.1 in
-    let fault : kind_fault w.kind curves c ≡ Sound = by_fault (kind_by c.kind) w.kind w.known ((well_stated curves c).1 w) in
+    let fault : kind_fault w.kind curves c ≡ Ok tt = by_fault (kind_by c.kind) w.kind w.known ((well_stated curves c).1 w) in
     record {
       stated = stated_of w.kind c;
       so =
@@ -164,7 +162,7 @@ claim_stands curves content e =
     }
   where
     by_fault : (κ? : Option Kind) (κ : Kind) → κ? ≡ some κ
-        → elim κ? as (λ _. Checked) [ none ↦ Refused WrongClaim | some κ ↦ kind_fault κ curves (claim_in content) ] ≡ Sound → kind_fault κ curves (claim_in content) ≡ Sound
+        → elim κ? as (λ _. Checked) [ none ↦ Err WrongClaim | some κ ↦ kind_fault κ curves (claim_in content) ] ≡ Ok tt → kind_fault κ curves (claim_in content) ≡ Ok tt
     by_fault κ? κ is e = rw is at e
 
     claimed_is : (κ : Kind) (c : Statement) → last_id κ c < curves → 0 < curves → claimed_of κ c < curves

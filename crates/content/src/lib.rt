@@ -10,64 +10,60 @@ use curve::Claim;
 pub mod claims;
 pub mod curves;
 
-// Why a book, or a question to it, is refused.
-#[derive(Clone, Copy)]
+// Why a book, or a question to it, is refused: document 01's numbers.
+#[derive(Clone, Copy, PartialEq, Eq)]
 pub enum Refusal {
     // fewer than 3 bytes are left, or the content runs past the book
-    Torn,
-    UnknownTag,
-    OutOfOrder,
+    Torn = 1,
+    UnknownTag = 2,
+    OutOfOrder = 3,
     // a 17th curve or a 257th claim
-    TooMany,
-    WrongVersion,
-    CurveLength,
+    TooMany = 4,
+    WrongVersion = 5,
+    CurveLength = 6,
     // d = 0 or T+d > 256
-    CurvePeriod,
-    TooManyUnits,
+    CurvePeriod = 7,
+    TooManyUnits = 8,
     // in its list, or where one period meets the next
-    CurveFalls,
+    CurveFalls = 9,
     // empty, of unknown kind or of the wrong length
-    WrongClaim,
-    NoSuchCurve,
+    WrongClaim = 10,
+    NoSuchCurve = 11,
     // X, or a tick that is asked for
-    TooLarge,
+    TooLarge = 12,
     // of a length other than 0, or with a byte after it
-    WrongEnd,
+    WrongEnd = 13,
     // too few bytes in a lent buffer
-    NoRoom,
-    BookTooLong,
+    NoRoom = 14,
+    BookTooLong = 15,
 }
 
 impl Refusal {
     // Document 01's number.
+    #[tactic(auto, unfolding(crate::specs::Refusals::number_of))]
     pub fn number(self) -> u8
         ensures { result ≡ number_of self }
     {
-        match self {
-            Refusal::Torn => 1,
-            Refusal::UnknownTag => 2,
-            Refusal::OutOfOrder => 3,
-            Refusal::TooMany => 4,
-            Refusal::WrongVersion => 5,
-            Refusal::CurveLength => 6,
-            Refusal::CurvePeriod => 7,
-            Refusal::TooManyUnits => 8,
-            Refusal::CurveFalls => 9,
-            Refusal::WrongClaim => 10,
-            Refusal::NoSuchCurve => 11,
-            Refusal::TooLarge => 12,
-            Refusal::WrongEnd => 13,
-            Refusal::NoRoom => 14,
-            Refusal::BookTooLong => 15,
-        }
+        self as u8
     }
 }
 
-// What a check of a content finds.
+// A curve as it is listed, in numbers of any size.
 #[derive(Clone, Copy)]
-pub enum Checked {
-    Sound,
-    Refused(Refusal),
+pub struct Listed<'a> {
+    pub rank: u64,
+    pub period: u64,
+    pub increment: u64,
+    pub values: &'a [u32],
+}
+
+// A claim as it is stated, in numbers of any size. The third is h for kinds 1 to 3 and X for 4 to 7.
+#[derive(Clone, Copy, PartialEq, Eq)]
+pub struct Statement {
+    pub kind: u64,
+    pub left: u64,
+    pub right: u64,
+    pub third: u64,
 }
 
 // A claim's field: what is said, of which curves. Kinds 4 to 7 have no claimed curve, and 0 stands there.
@@ -77,11 +73,4 @@ pub struct Stated {
     pub left: usize,
     pub right: usize,
     pub claimed: usize,
-}
-
-// What a claim's content is.
-#[derive(Clone, Copy)]
-pub enum ClaimField {
-    Stated(Stated),
-    Refused(Refusal),
 }

@@ -1,18 +1,24 @@
-use mathlib.Core.Path.{◌≡◌, sym, ◌∙◌}
-use lib.ListN.{length}
-use lib.Dec.{eqb}
-use borrow.Author.Tests.{eqb-true, eqb-false}
-use Rattle.content.specs.Layout.{claim_in, claim_length}
-use Rattle.content.specs.Refusals.{claim_odd, claim_whole}
+use Rattle.std.specs.Prelude.{ℕ, ◌≡◌}
+use Rattle.std.proofs.Common.{sym, ap, ◌∙◌, arith}
+use Rattle.numbers.specs.Numbers.{number_at}
+use Rattle.content.specs.Layout.{third_width, third_small}
+use Rattle.content.specs.Refusals.{statement_field, claim_odd, claim_whole}
 use Rattle.content.proofs.claims.claim_in.Goals as goal
 
-pub returns-then-not-whole : goal.returns-then-not-whole
-returns-then-not-whole c =
-    let same : eqb (length c.args.content.now) (claim_length (claim_in c.args.content.now).kind) ≡ c.whole.result = sym (rw c.number1-kind.ensures at c.whole.ensures) in
-    sym (claim_odd c.args.curves c.args.content.now (eqb-false _ _ (same ∙ c.if-not-whole.true)))
+pub overflow_add-third_width : goal.overflow_add-third_width
+overflow_add-third_width c = omega (arith, third_small c.number-kind.result)
+
+pub returns-then-content-third_width : goal.returns-then-content-third_width
+returns-then-content-third_width c =
+    let wide : c.third_width.result ≡ third_width (number_at 1 c.args.content.now 0) = c.third_width.ensures ∙ ap third_width c.number-kind.ensures.value in
+    sym (claim_odd c.args.curves c.args.content.now (λ e. omega (arith, e, wide, c.if-content-third_width.true)))
 
 pub returns : goal.returns
 returns c =
-    let same : eqb (length c.args.content.now) (claim_length (claim_in c.args.content.now).kind) ≡ c.whole.result = sym (rw c.number1-kind.ensures at c.whole.ensures) in
-    (rw (c.third_in.ensures, c.number1-right.ensures, c.number1-left.ensures, c.number1-kind.ensures) at c.statement.ensures)
-    ∙ sym (claim_whole c.args.curves c.args.content.now (eqb-true _ _ (same ∙ c.if-not-whole.false)))
+    let content = c.args.content.now in
+    let kind = c.number-kind.ensures.value in
+    let wide : c.third_width.result ≡ third_width (number_at 1 content 0) = c.third_width.ensures ∙ ap third_width kind in
+    let third = c.third_in.ensures ∙ ap (λ (k : ℕ). number_at (third_width k) content 3) kind in
+    c.statement.ensures
+    ∙ (λ i. statement_field c.args.curves (record { kind = kind i; left = c.number.ensures.value i; right = c.number-2.ensures.value i; third = third i }))
+    ∙ sym (claim_whole c.args.curves content (omega (arith, wide, c.if-content-third_width.false)))

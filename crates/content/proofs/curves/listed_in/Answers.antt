@@ -1,7 +1,5 @@
-use Prim.Native.Nat.{ℕ, ◌+◌, ◌-◌, ◌*◌}
-use mathlib.Core.Path.{◌≡◌, ap, ◌∙◌}
-use native.Mathlib.Omega.{arith}
-use lib.ListN.{take, drop}
+use Rattle.std.specs.Prelude.{ℕ, ◌+◌, ◌-◌, ◌*◌, ◌≡◌, take, drop}
+use Rattle.std.proofs.Common.{ap, ◌∙◌, arith}
 use Rattle.numbers.specs.Numbers.{number_at}
 use Rattle.content.proofs.Laws.{part_number}
 use Rattle.content.proofs.curves.listed_in.Goals as goal
@@ -11,5 +9,5 @@ returns c =
     let a = c.args in
     let at : ℕ = 8 + 4 * a.n in
     let four : at + 4 - at ≡ 4 = omega arith in
-    c.number4.ensures ∙ ap (λ (k : ℕ). number_at 4 (take k (drop at a.content.now)) 0) four
+    c.number.ensures.value ∙ ap (λ (k : ℕ). number_at 4 (take k (drop at a.content.now)) 0) four
     ∙ part_number 4 at a.content.now (omega (arith, c.requires))
