@@ -6,19 +6,17 @@
 --     w8-told             asked for C, at the largest tick and one above it, of no curve, and of W8 torn in its claim
 --     most-claims         256 claims are taken, and no 257th (a 17th curve: the judge's Ground)
 --     empty_read          "An empty input is refusal 1 at 0."
-use Rattle.std.specs.Prelude.{ℕ, ◌+◌, ◌*◌, ◌^◌, ◌≡◌, refl, false, true, List, [], ◌∷◌, ◌++◌, take}
+use Rattle.std.specs.Prelude.{ℕ, ◌+◌, ◌*◌, ◌^◌, ◌≡◌, refl, false, true, List, [], ◌∷◌, ◌++◌, take, Ok}
 use Rattle.minplus.specs.Claim.{kind_by}
 use Rattle.curve.specs.declared.Deviation.TheVariants.{Delay}
 use Rattle.curve.specs.declared.Claim.TheVariants.{Exactly}
 use Rattle.curve.specs.Filled.{list_of}
 use Rattle.content.specs.declared.Refusal.TheVariants.{Torn}
-use Rattle.content.specs.declared.ClaimField.TheVariants.{Stated}
 use Rattle.numbers.specs.Numbers.{number_at}
 use Rattle.field.specs.Fields.{tag_by, content_at}
 use Rattle.content.specs.Refusals.{claim_field, number_of}
 use Rattle.field.specs.declared.Tag.TheVariants as tag
 use Rattle.field.specs.Steps.{full}
-use Rattle.book.specs.declared.Asked.TheVariants.{Value}
 use Rattle.book.specs.Reading.{Contents, sound, refused, read_book}
 use Rattle.book.specs.Values.{curve_named, value_asked, told}
 
@@ -50,12 +48,12 @@ unfolding w8 w8_contents number_at list_of
 w8-curves = (refl, refl)
 
 -- "delay of A on B exactly 3"
-pub w8-claim : claim_field 2 (content_at w8 46) ≡ Stated (record { claim = Exactly (Delay (record { 0 = 3 })); left = 0; right = 1; claimed = 0 })
+pub w8-claim : claim_field 2 (content_at w8 46) ≡ Ok (record { claim = Exactly (Delay (record { 0 = 3 })); left = 0; right = 1; claimed = 0 })
 unfolding w8 claim_field kind_by number_at
 w8-claim = refl
 
 -- "A(5) = 8, B(5) = 6"
-pub w8_values : (value_asked w8 0 5 ≡ Value (record { 0 = 8 })) × (value_asked w8 1 5 ≡ Value (record { 0 = 6 }))
+pub w8_values : (value_asked w8 0 5 ≡ Ok (record { 0 = 8 })) × (value_asked w8 1 5 ≡ Ok (record { 0 = 6 }))
 unfolding value_asked w8 tag_by kind_by number_at list_of
 w8_values = (refl, refl)
 

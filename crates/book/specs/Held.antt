@@ -1,30 +1,26 @@
 -- What the code holds of a book that it reads.
 --
 --     places_of, book_of     the places in arrays, and the book with them (held_book)
---     reading_of       the answer as the code's struct: a refused book holds nothing; passed_up, outcome_of: from a
---                      field's answer
---     read_refused, read_sound     what the answer's outcome tells of the book
+--     reading_of       the answer as the code has it
+--     read_refused, read_sound     what an answer tells of the book
 --     Reads            a reader stands at a state of a book: reads_start; reads_refused, reads_end, reads_version,
 --                      reads_curve, reads_claim: by the next field's answer; curve_room, claim-room, place_near: its
 --                      place can be noted
-use Rattle.std.specs.Prelude.{ℕ, zero, suc, ◌+◌, ◌≤◌, ◌<◌, List, [], ◌∷◌, ◌++◌, set}
+use Rattle.std.specs.Prelude.{ℕ, zero, suc, ◌+◌, ◌≤◌, ◌<◌, List, [], ◌∷◌, ◌++◌, set, Result, Ok, Err}
 use Rattle.std.proofs.Math.Path.{◌≡◌, refl, sym, ap}
 use Rattle.std.proofs.Common.{◌∙◌, arith}
 use Rattle.std.proofs.Math.ListN.{length, length-append}
 use borrow.Author.Tests.{le-ltb, leb-false}
 use Rattle.curve.specs.Filled.{in_array, array_more}
 use Rattle.content.specs.declared.Refusal.{Refusal}
-use Rattle.field.specs.declared.Field.{Field}
-use Rattle.field.specs.declared.Field.TheVariants as field
 use Rattle.field.specs.declared.Tag.{Tag}
 use Rattle.field.specs.declared.Tag.TheVariants as tag
 use Rattle.field.specs.declared.State.{State}
+use Rattle.field.specs.declared.Refused.{Refused}
+use Rattle.field.specs.Steps as field
 use Rattle.field.specs.Steps.{max_curves, max_claims, full, after, step_at, takes, next_inside}
 use Rattle.book.specs.declared.Places.{Places}
 use Rattle.book.specs.declared.Book.{Book}
-use Rattle.book.specs.declared.Outcome.{Outcome}
-use Rattle.book.specs.declared.Outcome.TheVariants as outcome
-use Rattle.book.specs.declared.Reading.{Reading}
 use Rattle.book.specs.Reading.{Contents, Read, sound, refused, max_bytes, start, read_from, read_book}
 
 abbrev pub places_of : List ℕ → List ℕ → Places
@@ -33,21 +29,9 @@ places_of curves claims = record { curves = in_array max_curves curves; claims =
 abbrev pub book_of : Contents → Book
 book_of c = record { version = c.version; curves = length c.curves; claims = length c.claims; places = places_of c.curves c.claims }
 
-abbrev nothing : Book
-nothing = book_of (record { version = 0; curves = []; claims = [] })
-
-unfoldable pub reading_of : Read → Reading
-unfolding in_array
-reading_of (sound c) = record { outcome = outcome.Sound; book = book_of c }
-reading_of (refused x p) = record { outcome = outcome.Refused x p; book = nothing }
-
--- a field's refusal as the book's
-abbrev pub outcome_of : Field → Outcome
-outcome_of (field.Refused x p) = outcome.Refused x p
-outcome_of (field.Taken t next) = outcome.Sound
-
-abbrev pub passed_up : Field → Reading
-passed_up answer = record { outcome = outcome_of answer; book = nothing }
+abbrev pub reading_of : Read → Result Book Refused
+reading_of (sound c) = Ok (book_of c)
+reading_of (refused x p) = field.refused x p
 
 -- ---- laws
 
@@ -55,23 +39,22 @@ pub held_book : (v : ℕ) (curves claims : List ℕ) (n m : ℕ) (places : Place
     → ◌≡◌ {A = Book} (record { version = v; curves = n; claims = m; places = places }) (book_of (record { version = v; curves = curves; claims = claims }))
 held_book v curves claims n m places e e' e'' = rw (e, e', e'')
 
--- what the outcome of an answer tells of the book
-module _ (s : List ℕ) {r : Reading} (is : r ≡ reading_of (read_book s)) where
-  pub read_refused : {x : Refusal} {p : ℕ} → r.outcome ≡ outcome.Refused x p → read_book s ≡ refused x p
-  unfolding reading_of
-  read_refused {x} {p} e = go (read_book s) (sym (ap (λ (y : Reading). y.outcome) is) ∙ e)
+-- what an answer tells of the book
+module _ (s : List ℕ) {r : Result Book Refused} (is : r ≡ reading_of (read_book s)) where
+  pub read_refused : {e : Refused} → r ≡ Err e → read_book s ≡ refused e.refusal e.place
+  read_refused {e} told = go (read_book s) (sym is ∙ told)
     where
-      go : (y : Read) → (reading_of y).outcome ≡ outcome.Refused x p → y ≡ refused x p
+      go : (y : Read) → reading_of y ≡ Err e → y ≡ refused e.refusal e.place
       go (sound c) told = cc
-      go (refused y q) told = cc
+      go (refused x p) told =
+          let same : ◌≡◌ {A = Refused} (record { refusal = x; place = p }) e = cc in ap (λ (e : Refused). refused e.refusal e.place) same
 
-  pub read_sound : r.outcome ≡ outcome.Sound → (c : Contents) × (read_book s ≡ sound c) × (r.book ≡ book_of c)
-  unfolding reading_of
-  read_sound e = go (read_book s) refl is
+  pub read_sound : {b : Book} → r ≡ Ok b → (c : Contents) × (read_book s ≡ sound c) × (b ≡ book_of c)
+  read_sound {b} told = go (read_book s) refl (sym is ∙ told)
     where
-      go : (y : Read) → read_book s ≡ y → r ≡ reading_of y → (c : Contents) × (read_book s ≡ sound c) × (r.book ≡ book_of c)
-      go (sound c) so held = (c, so, ap (λ (y : Reading). y.book) held)
-      go (refused x p) so held = let z : ◌≡◌ {A = ℕ} 0 1 = cc (sym e ∙ ap (λ (y : Reading). y.outcome) held) in absurd (omega (arith, z))
+      go : (y : Read) → read_book s ≡ y → reading_of y ≡ Ok b → (c : Contents) × (read_book s ≡ sound c) × (b ≡ book_of c)
+      go (sound c) so held = (c, so, (let same : book_of c ≡ b = cc in sym same))
+      go (refused x p) so held = let z : ◌≡◌ {A = ℕ} 0 1 = cc in absurd (omega (arith, z))
 
 -- a reader that stands at a state of a book, with the places before it, reads the book as from its start
 pub record Reads (s : List ℕ) (st : State) (places : Places) : Type 0 where
@@ -111,32 +94,32 @@ module _ {s : List ℕ} {st : State} {places : Places} (reads : Reads s st place
       go zero same enough = absurd (omega (arith, enough, reads.inside))
       go (suc k) same enough = (k, same, enough)
 
-  pub reads_refused : (x : Refusal) (p : ℕ) → step_at s st ≡ field.Refused x p → read_book s ≡ refused x p
+  pub reads_refused : (x : Refusal) (p : ℕ) → step_at s st ≡ field.refused x p → read_book s ≡ refused x p
   unfolding read_from
   reads_refused x p e = sym (rw (e, read_from) at again.1)
 
-  pub reads_end : (next : State) → step_at s st ≡ field.Taken tag.End next
+  pub reads_end : (next : State) → step_at s st ≡ field.taken tag.End next
       → read_book s ≡ sound (record { version = st.version; curves = reads.curves; claims = reads.claims })
   unfolding read_from
   reads_end next e = sym (rw (e, read_from) at again.1)
 
   -- a field that is taken brings the reader on
-  pub place_inside : (t : Tag) (next : State) → step_at s st ≡ field.Taken t next → (st.place < next.place) × (next.place ≤ length s)
+  pub place_inside : (t : Tag) (next : State) → step_at s st ≡ field.taken t next → (st.place < next.place) × (next.place ≤ length s)
   place_inside t next e = next_inside (takes s st t next e) reads.inside
 
   -- there is room to note its place, which fits 16 bits
-  pub curve_room : (next : State) → step_at s st ≡ field.Taken tag.Curve next → st.curves < max_curves
+  pub curve_room : (next : State) → step_at s st ≡ field.taken tag.Curve next → st.curves < max_curves
   unfolding full
   curve_room next e = leb-false _ _ (takes s st tag.Curve next e).room
 
-  pub claim-room : (next : State) → step_at s st ≡ field.Taken tag.Claim next → st.claims < max_claims
+  pub claim-room : (next : State) → step_at s st ≡ field.taken tag.Claim next → st.claims < max_claims
   unfolding full
   claim-room next e = leb-false _ _ (takes s st tag.Claim next e).room
 
   pub place_near : st.place < 65536
   place_near = omega (arith, reads.short, reads.inside)
 
-  moved_on : (t : Tag) (next : State) → step_at s st ≡ field.Taken t next → (curves claims : List ℕ) → next.curves ≡ length curves → next.claims ≡ length claims
+  moved_on : (t : Tag) (next : State) → step_at s st ≡ field.taken t next → (curves claims : List ℕ) → next.curves ≡ length curves → next.claims ≡ length claims
       → ((k : ℕ) → read_from (suc k) s st reads.curves reads.claims ≡ read_from k s next curves claims)
       → (after-it : Places) → after-it ≡ places_of curves claims → Reads s next after-it
   moved_on t next e curves claims curve_count claim-count on-to after-it held =
@@ -154,7 +137,7 @@ module _ {s : List ℕ} {st : State} {places : Places} (reads : Reads s st place
         claim-count = claim-count;
       }
 
-  pub reads_version : (next : State) → step_at s st ≡ field.Taken tag.Version next → Reads s next places
+  pub reads_version : (next : State) → step_at s st ≡ field.taken tag.Version next → Reads s next places
   unfolding read_from after
   reads_version next e =
       let then = (takes s st tag.Version next e).then in
@@ -162,7 +145,7 @@ module _ {s : List ℕ} {st : State} {places : Places} (reads : Reads s st place
       (ap (λ (x : State). x.curves) then ∙ reads.curve_count) (ap (λ (x : State). x.claims) then ∙ reads.claim-count)
       (λ k. rw (e, read_from)) places reads.held
 
-  pub reads_curve : (next : State) → step_at s st ≡ field.Taken tag.Curve next
+  pub reads_curve : (next : State) → step_at s st ≡ field.taken tag.Curve next
       → Reads s next (record { curves = set places.curves st.curves st.place; claims = places.claims })
   unfolding read_from after
   reads_curve next e =
@@ -174,7 +157,7 @@ module _ {s : List ℕ} {st : State} {places : Places} (reads : Reads s st place
       (λ k. rw (e, read_from)) _
       (rw (reads.held, reads.curve_count, array_more max_curves reads.curves st.place (length reads.curves) refl room))
 
-  pub reads_claim : (next : State) → step_at s st ≡ field.Taken tag.Claim next
+  pub reads_claim : (next : State) → step_at s st ≡ field.taken tag.Claim next
       → Reads s next (record { curves = places.curves; claims = set places.claims st.claims st.place })
   unfolding read_from after
   reads_claim next e =

@@ -5,14 +5,12 @@
 --     Read             what any list of bytes is
 --     read_on, read_from     field by field, from a state on
 --     read_book        a book: of at most max_bytes, from start on
-use Rattle.std.specs.Prelude.{ℕ, zero, suc, true, false, List, [], ◌∷◌, ◌++◌, length, ltb}
+use Rattle.std.specs.Prelude.{ℕ, zero, suc, true, false, List, [], ◌∷◌, ◌++◌, length, ltb, Ok, Err}
 use Rattle.content.specs.declared.Refusal.{Refusal}
 use Rattle.content.specs.declared.Refusal.TheVariants.{Torn, BookTooLong}
 use Rattle.field.specs.declared.Tag.TheVariants as tag
 use Rattle.field.specs.declared.State.{State}
-use Rattle.field.specs.declared.Field.{Field}
-use Rattle.field.specs.declared.Field.TheVariants as field
-use Rattle.field.specs.Steps.{step_at}
+use Rattle.field.specs.Steps.{Field, step_at}
 
 pub record Contents : Type 0 where
   pub version : ℕ
@@ -32,11 +30,14 @@ start = record { version = 0; curves = 0; claims = 0; place = 0 }
 -- a field's answer, with how the book is read on from a state. The lists are the places of the curves and of the claims
 -- before the field
 abbrev pub read_on : (State → List ℕ → List ℕ → Read) → Field → State → List ℕ → List ℕ → Read
-read_on on (field.Refused x p) st curves claims = refused x p
-read_on on (field.Taken tag.Version next) st curves claims = on next curves claims
-read_on on (field.Taken tag.Curve next) st curves claims = on next (curves ++ (st.place ∷ [])) claims
-read_on on (field.Taken tag.Claim next) st curves claims = on next curves (claims ++ (st.place ∷ []))
-read_on on (field.Taken tag.End next) st curves claims = sound (record { version = st.version; curves = curves; claims = claims })
+read_on on (Err r) st curves claims = refused r.refusal r.place
+read_on on (Ok taken) st curves claims =
+    elim taken.tag as (λ _. Read) [
+      | tag.Version ↦ on taken.state curves claims
+      | tag.Curve ↦ on taken.state (curves ++ (st.place ∷ [])) claims
+      | tag.Claim ↦ on taken.state curves (claims ++ (st.place ∷ []))
+      | tag.End ↦ sound (record { version = st.version; curves = curves; claims = claims })
+    ]
 
 -- field by field. A field has three bytes or more, so that as many steps as there are bytes left are enough
 -- (read_steps)

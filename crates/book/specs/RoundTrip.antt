@@ -9,7 +9,7 @@
 --     w8_listing       what document 01's book says: its bytes (w8-written), what is read of them (w8-says), within the
 --                      limits (w8_well)
 use Prim.Native.Nat.{ℕ, zero, suc, ◌+◌, ◌≤◌, ◌<◌}
-use Rattle.std.specs.Prelude.{◌≡◌, Bool, true, false, not, drop, ltb, eqb}
+use Rattle.std.specs.Prelude.{◌≡◌, Bool, true, false, not, drop, ltb, eqb, Ok, Err}
 use Rattle.std.proofs.Math.Path.{refl, sym, ap, ap₂, subst}
 use Rattle.std.proofs.Common.{◌∙◌, arith, drop_at, drop-drop}
 use mathlib.Core.List.{List, [], ◌∷◌, ◌++◌, map, map-append, flat_map, append-nil, append_assoc}
@@ -27,17 +27,15 @@ use Rattle.numbers.specs.Numbers.{number_at}
 use Rattle.numbers.specs.Put.{bytes_of, length-bytes}
 use Rattle.numbers.specs.Back.{Bytes}
 use Rattle.content.specs.declared.Refusal.TheVariants.{BookTooLong}
-use Rattle.content.specs.declared.Checked.TheVariants.{Sound}
 use Rattle.content.specs.Layout.{curve_in, curve_bytes, Statement, third_width, claim_in, claim_bytes}
 use Rattle.content.specs.Sound.{WellStated, curve_well_formed, claim_sound}
 use Rattle.content.specs.Back.{curve_back, curve_taken, curve_again, curve_small, claim_back, claim_taken, claim_again, claim_small}
 use Rattle.field.specs.declared.Tag.{Tag}
 use Rattle.field.specs.declared.Tag.TheVariants as tag
 use Rattle.field.specs.declared.State.{State}
-use Rattle.field.specs.declared.Field.{Field}
-use Rattle.field.specs.declared.Field.TheVariants as field
 use Rattle.field.specs.Fields.{content_at, version_in, field_bytes}
-use Rattle.field.specs.Steps.{max_curves, max_claims, is_version, content_fault, in_order, full, after, step_at, Takes, takes, after_place, next_inside}
+use Rattle.field.specs.Steps as field
+use Rattle.field.specs.Steps.{Field, max_curves, max_claims, is_version, content_fault, in_order, full, after, step_at, Takes, takes, after_place, next_inside}
 use Rattle.field.specs.Back.{version_fits, begun-on, version_back, version_taken, version_sound, version_again, field_taken, content-bytes, field_again, end-last}
 use Rattle.book.specs.Reading.{Contents, Read, sound, refused, max_bytes, start, read_on, read_from, read_book}
 use Rattle.book.specs.Ground.{w8, w8_contents, w8_read}
@@ -77,7 +75,7 @@ reached-start s fits = record {
 -- a field more, if it is in order, there is room for it and its content is sound
 module _ {s : List ℕ} {b : Listing} (t : Tag) (content post : List ℕ) (r : Reached s b (field_bytes t content ++ post)) (short : length content < 65536)
     (ordered : in_order t b.version (length b.claims) ≡ true) (room : full t (length b.curves) (length b.claims) ≡ false)
-    (right : content_fault t (length b.curves) content (length post) ≡ Sound) where
+    (right : content_fault t (length b.curves) content (length post) ≡ Ok tt) where
   curves_are : r.st.curves ≡ length b.curves
   curves_are = r.curve_count ∙ sym (length-map r.curves (curve_at s)) ∙ ap (λ (x : Listing). length x.curves) r.says
 
@@ -87,16 +85,16 @@ module _ {s : List ℕ} {b : Listing} (t : Tag) (content post : List ℕ) (r : R
   abbrev next : State
   next = after t r.st (version_in content) (r.st.place + length (field_bytes t content))
 
-  taken : (step_at s r.st ≡ field.Taken t next) × (content_at s r.st.place ≡ content)
+  taken : (step_at s r.st ≡ field.taken t next) × (content_at s r.st.place ≡ content)
   taken =
       let version-is : r.st.version ≡ b.version = ap (λ (x : Listing). x.version) r.says in
       field_taken t content post short r.st (rw (version-is, claims_are) ordered) (rw (curves_are, claims_are) room) (rw curves_are right) s r.here
 
-  stepped : read_on (read_from (length s) s) (field.Taken t next) r.st r.curves r.claims ≡ read_book s
+  stepped : read_on (read_from (length s) s) (field.taken t next) r.st r.curves r.claims ≡ read_book s
   unfolding read_from
   stepped = sym (ap (λ (f : Field). read_on (read_from (length s) s) f r.st r.curves r.claims) taken.0) ∙ r.same
 
-  moved : (curves claims : List ℕ) (b' : Listing) → read_on (read_from (length s) s) (field.Taken t next) r.st r.curves r.claims ≡ read_from (length s) s next curves claims
+  moved : (curves claims : List ℕ) (b' : Listing) → read_on (read_from (length s) s) (field.taken t next) r.st r.curves r.claims ≡ read_from (length s) s next curves claims
       → next.curves ≡ length curves → next.claims ≡ length claims
       → (content_at s r.st.place ≡ content → listing_in s (held next curves claims) ≡ b') → Reached s b' post
   moved curves claims b' on-to curve_count claim-count says =
@@ -240,7 +238,7 @@ module _ {s : List ℕ} (small : Bytes s) {st : State} {curves claims : List ℕ
   bytes : Bytes content
   bytes = content-bytes s st.place small
 
-  rewritten_version : step_at s st ≡ field.Taken tag.Version next → Rewritten s next curves claims
+  rewritten_version : step_at s st ≡ field.taken tag.Version next → Rewritten s next curves claims
   unfolding after content_fault in_order
   rewritten_version e = go (takes s st tag.Version next e) r.so_far
     where
@@ -274,7 +272,7 @@ module _ {s : List ℕ} (small : Bytes s) {st : State} {curves claims : List ℕ
         (field_again taken small ∙ ap (λ (x : List ℕ). x ++ field_bytes t content) (opened-so r.so_far later) ∙ sym adds);
   }
 
-  rewritten_curve : step_at s st ≡ field.Taken tag.Curve next → Rewritten s next (curves ++ (st.place ∷ [])) claims
+  rewritten_curve : step_at s st ≡ field.taken tag.Curve next → Rewritten s next (curves ++ (st.place ∷ [])) claims
   unfolding after content_fault in_order
   rewritten_curve e =
       let taken = takes s st tag.Curve next e in
@@ -290,7 +288,7 @@ module _ {s : List ℕ} (small : Bytes s) {st : State} {curves claims : List ℕ
       (ap open_bytes lists ∙ open_curve says (curve_in content) (ap (map (claim_at s)) none_yet)
       ∙ ap (λ (c : List ℕ). open_bytes says ++ field_bytes tag.Curve c) (curve_again content bytes taken.content))
 
-  rewritten_claim : step_at s st ≡ field.Taken tag.Claim next → Rewritten s next curves (claims ++ (st.place ∷ []))
+  rewritten_claim : step_at s st ≡ field.taken tag.Claim next → Rewritten s next curves (claims ++ (st.place ∷ []))
   unfolding after content_fault in_order
   rewritten_claim e =
       let taken = takes s st tag.Claim next e in
@@ -305,7 +303,7 @@ module _ {s : List ℕ} (small : Bytes s) {st : State} {curves claims : List ℕ
       (ap open_bytes lists ∙ open_claim says (claim_in content)
       ∙ ap (λ (c : List ℕ). open_bytes says ++ field_bytes tag.Claim c) (claim_again st.curves content bytes taken.content))
 
-  rewritten_end : step_at s st ≡ field.Taken tag.End next → book_bytes says ≡ s
+  rewritten_end : step_at s st ≡ field.taken tag.End next → book_bytes says ≡ s
   unfolding book_bytes in_order
   rewritten_end e =
       let taken = takes s st tag.End next e in
@@ -319,15 +317,20 @@ unfolding read_from
 rewritten_from small c zero st curves claims r e = cc
 rewritten_from {s} small c (suc k) st curves claims r e = go (step_at s st) refl (rewritten_from small c k) e
   where
+    by_tag : (t : Tag) (next : State) → step_at s st ≡ field.taken t next
+        → ((st : State) (curves claims : List ℕ) → Rewritten s st curves claims → read_from k s st curves claims ≡ sound c → book_bytes (listing_in s c) ≡ s)
+        → read_on (read_from k s) (field.taken t next) st curves claims ≡ sound c → book_bytes (listing_in s c) ≡ s
+    by_tag tag.Version next is later e = later next _ _ (rewritten_version small r next is) e
+    by_tag tag.Curve next is later e = later next _ _ (rewritten_curve small r next is) e
+    by_tag tag.Claim next is later e = later next _ _ (rewritten_claim small r next is) e
+    by_tag tag.End next is later e =
+        let same : held st curves claims ≡ c = cc in subst (λ (x : Contents). book_bytes (listing_in s x) ≡ s) same (rewritten_end small r next is)
+
     go : (f : Field) → step_at s st ≡ f
         → ((st : State) (curves claims : List ℕ) → Rewritten s st curves claims → read_from k s st curves claims ≡ sound c → book_bytes (listing_in s c) ≡ s)
         → read_on (read_from k s) f st curves claims ≡ sound c → book_bytes (listing_in s c) ≡ s
-    go (field.Refused x p) is later e = cc
-    go (field.Taken tag.Version next) is later e = later next _ _ (rewritten_version small r next is) e
-    go (field.Taken tag.Curve next) is later e = later next _ _ (rewritten_curve small r next is) e
-    go (field.Taken tag.Claim next) is later e = later next _ _ (rewritten_claim small r next is) e
-    go (field.Taken tag.End next) is later e =
-        let same : held st curves claims ≡ c = cc in subst (λ (x : Contents). book_bytes (listing_in s x) ≡ s) same (rewritten_end small r next is)
+    go (Err r) is later e = cc
+    go (Ok taken) is later e = by_tag taken.tag taken.state is later e
 
 pub read_written : (s : List ℕ) (c : Contents) → Bytes s → read_book s ≡ sound c → book_bytes (listing_in s c) ≡ s
 unfolding read_book

@@ -7,7 +7,7 @@
 --     read_means           every list of bytes
 --     read_steps           a step more changes nothing: no answer is for want of steps
 --     sound_book, refused_inside     the two, told apart
-use Rattle.std.specs.Prelude.{ℕ, zero, suc, ◌+◌, ◌≤◌, ◌<◌, ◌≡◌, refl, Bool, false, not, List, [], ◌∷◌, ◌++◌, ◌⊎◌, ltb, eqb}
+use Rattle.std.specs.Prelude.{ℕ, zero, suc, ◌+◌, ◌≤◌, ◌<◌, ◌≡◌, refl, Bool, false, not, List, [], ◌∷◌, ◌++◌, ◌⊎◌, ltb, eqb, Ok, Err}
 use Rattle.std.proofs.Common.{sym, ◌∙◌, inl, arith}
 use Rattle.std.proofs.Math.Path.{ap, subst}
 use Rattle.std.proofs.Math.Bool.{true}
@@ -19,23 +19,22 @@ use Rattle.minplus.specs.Search.{both_true}
 use Rattle.numbers.specs.Lists.{forall_more, length_zero}
 use Rattle.content.specs.declared.Refusal.{Refusal}
 use Rattle.content.specs.declared.Refusal.TheVariants.{BookTooLong}
-use Rattle.content.specs.declared.Checked.TheVariants.{Sound}
 use Rattle.field.specs.declared.Tag.TheVariants as tag
 use Rattle.field.specs.declared.State.{State}
-use Rattle.field.specs.declared.Field.{Field}
-use Rattle.field.specs.declared.Field.TheVariants as field
 use Rattle.field.specs.Fields.{content_at}
 use Rattle.content.specs.Refusals.{curve_fault, claim_fault}
-use Rattle.field.specs.Steps.{max_curves, max_claims, is_version, content_fault, in_order, full, after, step_at, takes, refused_at, next_inside}
+use Rattle.field.specs.declared.Tag.{Tag}
+use Rattle.field.specs.Steps as field
+use Rattle.field.specs.Steps.{Field, max_curves, max_claims, is_version, content_fault, in_order, full, after, step_at, takes, refused_at, next_inside}
 use Rattle.field.specs.Back.{version_sound}
 use Rattle.book.specs.Reading.{Contents, Read, sound, refused, max_bytes, start, read_on, read_from, read_book}
 
 -- a curve, and a claim that names curves of a book that has so many, at a place
 abbrev pub SoundCurve : List ℕ → ℕ → Type 0
-SoundCurve s p = curve_fault (content_at s p) ≡ Sound
+SoundCurve s p = curve_fault (content_at s p) ≡ Ok tt
 
 abbrev pub SoundClaim : List ℕ → ℕ → ℕ → Type 0
-SoundClaim s curves p = claim_fault curves (content_at s p) ≡ Sound
+SoundClaim s curves p = claim_fault curves (content_at s p) ≡ Ok tt
 
 pub record SoundBook (s : List ℕ) (c : Contents) : Type 0 where
   pub version_known : is_version c.version ≡ true
@@ -63,7 +62,7 @@ record Kept (s : List ℕ) (st : State) (curves claims : List ℕ) : Type 0 wher
   short : length s ≤ max_bytes
 
 module _ {s : List ℕ} {st : State} {curves claims : List ℕ} (kept : Kept s st curves claims) (next : State) where
-  kept_version : step_at s st ≡ field.Taken tag.Version next → Kept s next curves claims
+  kept_version : step_at s st ≡ field.taken tag.Version next → Kept s next curves claims
   unfolding after content_fault
   kept_version e =
       let taken = takes s st tag.Version next e in
@@ -80,7 +79,7 @@ module _ {s : List ℕ} {st : State} {curves claims : List ℕ} (kept : Kept s s
         short = kept.short;
       }
 
-  kept_curve : step_at s st ≡ field.Taken tag.Curve next → Kept s next (curves ++ (st.place ∷ [])) claims
+  kept_curve : step_at s st ≡ field.taken tag.Curve next → Kept s next (curves ++ (st.place ∷ [])) claims
   unfolding after content_fault in_order full Forall
   kept_curve e =
       let taken = takes s st tag.Curve next e in
@@ -98,7 +97,7 @@ module _ {s : List ℕ} {st : State} {curves claims : List ℕ} (kept : Kept s s
         short = kept.short;
       }
 
-  kept_claim : step_at s st ≡ field.Taken tag.Claim next → Kept s next curves (claims ++ (st.place ∷ []))
+  kept_claim : step_at s st ≡ field.taken tag.Claim next → Kept s next curves (claims ++ (st.place ∷ []))
   unfolding after content_fault full
   kept_claim e =
       let taken = takes s st tag.Claim next e in
@@ -117,7 +116,7 @@ module _ {s : List ℕ} {st : State} {curves claims : List ℕ} (kept : Kept s s
         short = kept.short;
       }
 
-  kept_end : step_at s st ≡ field.Taken tag.End next → SoundBook s (record { version = st.version; curves = curves; claims = claims })
+  kept_end : step_at s st ≡ field.taken tag.End next → SoundBook s (record { version = st.version; curves = curves; claims = claims })
   unfolding in_order
   kept_end e = record {
     version_known = known kept.version_known (eqb-false _ _ (not-true _ (takes s st tag.End next e).ordered));
@@ -136,13 +135,18 @@ unfolding read_from
 read_from_lem zero s st curves claims kept = (kept.inside, omega (arith, kept.inside, kept.short))
 read_from_lem (suc k) s st curves claims kept = go (step_at s st) refl (read_from_lem k s)
   where
+    by_tag : (t : Tag) (next : State) → step_at s st ≡ field.taken t next
+        → ((st : State) (curves claims : List ℕ) → Kept s st curves claims → Means s (read_from k s st curves claims))
+        → Means s (read_on (read_from k s) (field.taken t next) st curves claims)
+    by_tag tag.Version next e later = later next curves claims (kept_version kept next e)
+    by_tag tag.Curve next e later = later next _ claims (kept_curve kept next e)
+    by_tag tag.Claim next e later = later next curves _ (kept_claim kept next e)
+    by_tag tag.End next e later = kept_end kept next e
+
     go : (f : Field) → step_at s st ≡ f → ((st : State) (curves claims : List ℕ) → Kept s st curves claims → Means s (read_from k s st curves claims))
         → Means s (read_on (read_from k s) f st curves claims)
-    go (field.Refused x p) e later = rw (refused_at s st x p e) (kept.inside, omega (arith, kept.inside, kept.short))
-    go (field.Taken tag.Version next) e later = later next curves claims (kept_version kept next e)
-    go (field.Taken tag.Curve next) e later = later next _ claims (kept_curve kept next e)
-    go (field.Taken tag.Claim next) e later = later next curves _ (kept_claim kept next e)
-    go (field.Taken tag.End next) e later = kept_end kept next e
+    go (Err r) e later = rw (refused_at s st r.refusal r.place e) (kept.inside, omega (arith, kept.inside, kept.short))
+    go (Ok taken) e later = by_tag taken.tag taken.state e later
 
 pub read_means : (s : List ℕ) → Means s (read_book s)
 unfolding read_book Forall
@@ -177,14 +181,20 @@ unfolding read_from
 read_steps zero s st curves claims inside enough = absurd (omega (arith, inside, enough))
 read_steps (suc k) s st curves claims inside enough = go (step_at s st) refl (read_steps k s)
   where
+    by_tag : (t : Tag) (next : State) → ((curves claims : List ℕ) → read_from (suc k) s next curves claims ≡ read_from k s next curves claims)
+        → read_on (read_from (suc k) s) (field.taken t next) st curves claims ≡ read_on (read_from k s) (field.taken t next) st curves claims
+    by_tag tag.Version next later = later _ _
+    by_tag tag.Curve next later = later _ _
+    by_tag tag.Claim next later = later _ _
+    by_tag tag.End next later = refl
+
     further : (next : State) → (st.place < next.place) × (next.place ≤ length s) → length s < k + next.place
     further next past = omega (arith, enough, past.0)
 
     go : (f : Field) → step_at s st ≡ f
         → ((st : State) (curves claims : List ℕ) → st.place ≤ length s → length s < k + st.place → read_from (suc k) s st curves claims ≡ read_from k s st curves claims)
         → read_on (read_from (suc k) s) f st curves claims ≡ read_on (read_from k s) f st curves claims
-    go (field.Refused x p) e later = refl
-    go (field.Taken tag.Version next) e later = let past = next_inside (takes s st _ next e) inside in later next _ _ past.1 (further next past)
-    go (field.Taken tag.Curve next) e later = let past = next_inside (takes s st _ next e) inside in later next _ _ past.1 (further next past)
-    go (field.Taken tag.Claim next) e later = let past = next_inside (takes s st _ next e) inside in later next _ _ past.1 (further next past)
-    go (field.Taken tag.End next) e later = refl
+    go (Err r) e later = refl
+    go (Ok taken) e later =
+        let past = next_inside (takes s st taken.tag taken.state e) inside in
+        by_tag taken.tag taken.state (λ curves claims. later taken.state curves claims past.1 (further taken.state past))

@@ -1,8 +1,6 @@
 // A book, read: any bytes are a sound book or a refusal with its place.
 #![tactic(auto)]
 
-use content::Refusal;
-use curve::Units;
 use field::State;
 
 pub mod values;
@@ -26,34 +24,13 @@ pub struct Book {
 
 impl Book {
     pub const MAX_BYTES: usize = 32_768;
-}
 
-#[derive(Clone, Copy)]
-pub enum Outcome {
-    Sound,
-    Refused(Refusal, usize),
-}
-
-// What reading gives. A refused book holds nothing: no curve, no claim, no place.
-#[derive(Clone, Copy)]
-pub struct Reading {
-    pub outcome: Outcome,
-    pub book: Book,
-}
-
-// The answer to a question for a curve's value.
-#[derive(Clone, Copy)]
-pub enum Asked {
-    Value(Units),
-    Refused(Refusal, usize),
-}
-
-impl Asked {
+    // The largest tick at which a curve's value is asked.
     pub const MAX_TICK: u64 = 2_000_000_000;
 }
 
-// The same for C: the refusal's number + 2^8 * its place, 0 where there is a value; and the value, 0 where there is
-// none.
+// A curve's value for C, which has no `Result`: the refusal's number + 2^8 * its place, 0 where there is a value; and
+// the value, 0 where there is none.
 #[repr(C)]
 #[derive(Clone, Copy)]
 pub struct CurveValue {

@@ -3,48 +3,44 @@ ghost use Rattle.std.specs.Prelude.{◌≡◌};
 ghost use Rattle.book.specs.Values.{value_asked, told};
 
 use crate::whole::read;
-use crate::{Asked, CurveValue, Outcome};
+use crate::{Book, CurveValue};
 use content::Refusal;
-use curve::Ticks;
-use curve::values::value_at;
+use curve::{Ticks, Units};
+use field::Refused;
 use field::places::curve_at;
 
-pub fn value_in(book: &[u8], curve: u64, tick: u64) -> Asked
+pub fn value_in(book: &[u8], curve: u64, tick: u64) -> Result<Units, Refused>
     ensures { result ≡ value_asked book.now curve tick }
 {
-    let reading = read(book);
-    let outcome = reading.outcome;
-    let sound = reading.book;
-    if let Outcome::Refused(refusal, place) = outcome {
-        return Asked::Refused(refusal, place);
+    let sound = read(book)?;
+    if sound.curves as u64 <= curve {
+        return Err(Refused {
+            refusal: Refusal::NoSuchCurve,
+            place: 0,
+        });
     }
-    let curves = sound.curves as u64;
-    if curves <= curve {
-        return Asked::Refused(Refusal::NoSuchCurve, 0);
+    if Book::MAX_TICK < tick {
+        return Err(Refused {
+            refusal: Refusal::TooLarge,
+            place: 0,
+        });
     }
-    if Asked::MAX_TICK < tick {
-        return Asked::Refused(Refusal::TooLarge, 0);
-    }
-    let n = curve as usize;
-    let places = sound.places;
-    let place = places.curves[n];
+    let place = sound.places.curves[curve as usize];
     let f = curve_at(book, place as usize);
-    let at = tick as u32;
-    Asked::Value(value_at(f.form, &f.rises, Ticks(at)))
+    Ok(f.held().value_at(Ticks(tick as u32)))
 }
 
-// The same as two numbers: the refusal's number + 2^8 * its place, 0 where there is a value, and the value.
+// The same for C.
 pub fn curve_value(book: &[u8], curve: u64, tick: u64) -> CurveValue
     ensures { result ≡ told (value_asked book.now curve tick) }
 {
-    let asked = value_in(book, curve, tick);
-    match asked {
-        Asked::Value(value) => CurveValue {
+    match value_in(book, curve, tick) {
+        Ok(value) => CurveValue {
             refusal: 0,
             value: value.0,
         },
-        Asked::Refused(refusal, place) => CurveValue {
-            refusal: refusal.number() as u64 + 256 * place as u64,
+        Err(refused) => CurveValue {
+            refusal: refused.word(),
             value: 0,
         },
     }

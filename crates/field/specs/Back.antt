@@ -12,7 +12,7 @@
 --     field_again               a field that was taken is the bytes of its tag and its content; end-last: after the end
 --                               nothing is left
 use Prim.Native.Nat.{ℕ, ◌+◌, ◌-◌, ◌≤◌, ◌<◌}
-use Rattle.std.specs.Prelude.{◌≡◌, Bool, true, false, not, drop, ltb, eqb}
+use Rattle.std.specs.Prelude.{◌≡◌, Bool, true, false, not, drop, ltb, eqb, Result, Ok}
 use Rattle.std.proofs.Math.Path.{refl, ap, ap₂}
 use Rattle.std.proofs.Common.{sym, ◌∙◌, length-append, take-add, take_all, take_at}
 use mathlib.Core.List.{List, [], ◌++◌, append-nil, append_assoc}
@@ -28,16 +28,13 @@ use Rattle.numbers.specs.Put.{bytes_of, length-bytes}
 use Rattle.numbers.specs.Back.{Bytes, bytes_take, bytes_drop, bytes-append, length_then, number_on}
 use Rattle.numbers.proofs.HighFirst.{bytes_of_lem, number_front, bytes_again, bytes_then}
 use Rattle.content.specs.declared.Refusal.TheVariants.{WrongVersion, WrongEnd}
-use Rattle.content.specs.declared.Checked.{Checked}
-use Rattle.content.specs.declared.Checked.TheVariants.{Sound}
-use Rattle.content.specs.Refusals.{on, on_sound}
+use Rattle.content.specs.declared.Refusal.{Refusal}
+use Rattle.content.specs.Refusals.{Checked, on, on_sound}
 use Rattle.field.specs.declared.Tag.{Tag}
 use Rattle.field.specs.declared.Tag.TheVariants.{Version, Curve, Claim, End}
-use Rattle.field.specs.declared.Tagged.TheVariants.{Known}
 use Rattle.field.specs.declared.State.{State}
-use Rattle.field.specs.declared.Field.TheVariants as field
 use Rattle.field.specs.Fields.{tag_number, tags, known, tag_by, head_length, tag_of, length_of, content_of, content_at, version_in, field_bytes}
-use Rattle.field.specs.Steps.{is_version, version_fault, end_fault, content_fault, in_order, full, field_size, tagged_fault, after, answer, step_on, step_at, Takes, next_place}
+use Rattle.field.specs.Steps.{is_version, version_fault, end_fault, content_fault, in_order, full, field_size, tagged_fault, after, taken, answer, step_on, step_at, Takes, next_place}
 
 -- ---- a version
 
@@ -51,36 +48,36 @@ module _ (v : ℕ) (right : is_version v ≡ true) where
   pub version_back : version_in (bytes_of 1 v) ≡ v
   version_back = ap (λ (t : List ℕ). number_at 1 t 0) (sym (append-nil (bytes_of 1 v))) ∙ number_front 1 v [] (omega (arith, version_fits.1))
 
-  pub version_taken : version_fault (bytes_of 1 v) ≡ Sound
+  pub version_taken : version_fault (bytes_of 1 v) ≡ Ok tt
   unfolding version_fault
   version_taken = rw (version_back, length-bytes 1 v, right)
 
-pub version_sound : (content : List ℕ) → version_fault content ≡ Sound → (length content ≡ 1) × (is_version (version_in content) ≡ true)
+pub version_sound : (content : List ℕ) → version_fault content ≡ Ok tt → (length content ≡ 1) × (is_version (version_in content) ≡ true)
 unfolding version_fault
 version_sound content e =
     let is_one : Bool = is_version (version_in content) in
-    let long = on_sound (not (eqb (length content) 1)) WrongVersion (on (not is_one) WrongVersion Sound) e in
-    (eqb-true _ _ (not-false _ long.0), not-false is_one (on_sound (not is_one) WrongVersion Sound long.1).0)
+    let long = on_sound (not (eqb (length content) 1)) WrongVersion (on (not is_one) WrongVersion (Ok tt)) e in
+    (eqb-true _ _ (not-false _ long.0), not-false is_one (on_sound (not is_one) WrongVersion (Ok tt) long.1).0)
 
-pub version_again : (content : List ℕ) → Bytes content → version_fault content ≡ Sound → bytes_of 1 (version_in content) ≡ content
+pub version_again : (content : List ℕ) → Bytes content → version_fault content ≡ Ok tt → bytes_of 1 (version_in content) ≡ content
 version_again content small e =
     let long : length content ≡ 1 = (version_sound content e).0 in
     bytes_again 1 0 content small (omega (arith, long)) ∙ take_all 1 content (omega (arith, long))
 
 -- ---- a tag
 
-pub tag_back : (t : Tag) → (tag_number t < 256) × (tag_by (tag_number t) ≡ Known t)
+pub tag_back : (t : Tag) → (tag_number t < 256) × (tag_by (tag_number t) ≡ Ok t)
 unfolding tag_by
 tag_back Version = (omega arith, refl)
 tag_back Curve = (omega arith, refl)
 tag_back Claim = (omega arith, refl)
 tag_back End = (omega arith, refl)
 
-tag_number_lem : (b : ℕ) (t : Tag) → tag_by b ≡ Known t → b ≡ tag_number t
+tag_number_lem : (b : ℕ) (t : Tag) → tag_by b ≡ Ok t → b ≡ tag_number t
 unfolding tag_by
 tag_number_lem b t e = go (numbered tag_number tags b) refl e
   where
-    go : (o : Option Tag) → numbered tag_number tags b ≡ o → known o ≡ Known t → b ≡ tag_number t
+    go : (o : Option Tag) → numbered tag_number tags b ≡ o → known o ≡ Ok t → b ≡ tag_number t
     go none is e = cc
     go (some t') is e = let same : t' ≡ t = cc in numbered-so tag_number tags b t' is ∙ ap tag_number same
 
@@ -99,7 +96,7 @@ module _ (t : Tag) (content post : List ℕ) where
   abbrev bytes : List ℕ
   bytes = field_bytes t content ++ post
 
-  field_tag : tag_of (field_bytes t content ++ post) ≡ Known t
+  field_tag : tag_of (field_bytes t content ++ post) ≡ Ok t
   unfolding field_bytes
   field_tag =
       ap (λ (r : List ℕ). tag_by (number_at 1 r 0)) (append_assoc (bytes_of 1 (tag_number t)) (bytes_of 2 (length content) ++ content) post)
@@ -128,22 +125,22 @@ module _ (t : Tag) (content post : List ℕ) where
     all = length-append (field_bytes t content) post ∙ ap (λ (n : ℕ). n + length post) (sym size)
 
     module _ (st : State) (ordered : in_order t st.version st.claims ≡ true) (room : full t st.curves st.claims ≡ false)
-        (sound : content_fault t st.curves content (length post) ≡ Sound) where
-      fault : tagged_fault t st bytes ≡ Sound
+        (sound : content_fault t st.curves content (length post) ≡ Ok tt) where
+      fault : tagged_fault t st bytes ≡ Ok tt
       unfolding tagged_fault
       fault =
           let follow : length bytes - field_size bytes ≡ length post = omega (arith, all) in
           rw (ordered, room, le-ltb (length bytes) (field_size bytes) (omega (arith, all)), field_content, follow) sound
 
-      stepped : step_on st bytes ≡ field.Taken t (after t st (version_in content) (st.place + length (field_bytes t content)))
+      stepped : step_on st bytes ≡ taken t (after t st (version_in content) (st.place + length (field_bytes t content)))
       unfolding step_on
       stepped =
           rw (le-ltb (length bytes) head_length (omega (arith, all)), field_tag, step_on)
           (ap (λ (y : Checked). answer y t st bytes) fault
-          ∙ ap₂ (λ (c : List ℕ) (n : ℕ). field.Taken t (after t st (version_in c) (st.place + n))) field_content size)
+          ∙ ap₂ (λ (c : List ℕ) (n : ℕ). taken t (after t st (version_in c) (st.place + n))) field_content size)
 
       pub field_taken : (s : List ℕ) → drop st.place s ≡ field_bytes t content ++ post
-          → (step_at s st ≡ field.Taken t (after t st (version_in content) (st.place + length (field_bytes t content)))) × (content_at s st.place ≡ content)
+          → (step_at s st ≡ taken t (after t st (version_in content) (st.place + length (field_bytes t content)))) × (content_at s st.place ≡ content)
       unfolding step_at
       field_taken s here = (ap (step_on st) here ∙ stepped, ap (λ (r : List ℕ). content_of r) here ∙ field_content)
 
@@ -177,7 +174,7 @@ unfolding content_fault end_fault
 end-last {s} {st} {next} taken inside =
     let content : List ℕ = content_at s st.place in
     let follow : ℕ = length (drop st.place s) - field_size (drop st.place s) in
-    let t₁ = on_sound (not (eqb (length content) 0)) WrongEnd (on (ltb 0 follow) WrongEnd Sound) taken.content in
-    let none_left : follow ≤ 0 = ltb-false _ _ (on_sound (ltb 0 follow) WrongEnd Sound t₁.1).0 in
+    let t₁ = on_sound (not (eqb (length content) 0)) WrongEnd (on (ltb 0 follow) WrongEnd (Ok tt)) taken.content in
+    let none_left : follow ≤ 0 = ltb-false _ _ (on_sound (ltb 0 follow) WrongEnd (Ok tt) t₁.1).0 in
     let empty : length content ≡ 0 = eqb-true _ _ (not-false _ t₁.0) in
     (length_zero content empty, omega (arith, none_left, next_place taken, taken.whole, length-drop st.place s, inside))

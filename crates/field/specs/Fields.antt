@@ -6,13 +6,13 @@
 --     content_at                       of the field at a place of the book
 --     version_in                       "10 hex: version, one byte"
 --     field_bytes                      a field, written
-use Rattle.std.specs.Prelude.{ℕ, List, [], ◌∷◌, ◌++◌, take, drop, length}
+use Rattle.std.specs.Prelude.{ℕ, List, [], ◌∷◌, ◌++◌, take, drop, length, Result, Ok, Err}
 use Rattle.std.proofs.Math.Option.{Option, none, some}
 use Rattle.minplus.specs.Search.{numbered}
+use Rattle.content.specs.declared.Refusal.{Refusal}
+use Rattle.content.specs.declared.Refusal.TheVariants.{UnknownTag}
 use Rattle.field.specs.declared.Tag.{Tag}
 use Rattle.field.specs.declared.Tag.TheVariants.{Version, Curve, Claim, End}
-use Rattle.field.specs.declared.Tagged.{Tagged}
-use Rattle.field.specs.declared.Tagged.TheVariants.{Known, Unknown}
 use Rattle.numbers.specs.Numbers.{number_at}
 use Rattle.numbers.specs.Put.{bytes_of}
 
@@ -25,11 +25,12 @@ tag_number End = 127
 abbrev pub tags : List Tag
 tags = Version ∷ Curve ∷ Claim ∷ End ∷ []
 
-abbrev pub known : Option Tag → Tagged
-known none = Unknown
-known (some t) = Known t
+-- "2 unknown tag"
+abbrev pub known : Option Tag → Result Tag Refusal
+known none = Err UnknownTag
+known (some t) = Ok t
 
-unfoldable pub tag_by : ℕ → Tagged
+unfoldable pub tag_by : ℕ → Result Tag Refusal
 unfolding numbered tag_number
 tag_by b = known (numbered tag_number tags b)
 
@@ -37,7 +38,7 @@ tag_by b = known (numbered tag_number tags b)
 abbrev pub head_length : ℕ
 head_length = 3
 
-abbrev pub tag_of : List ℕ → Tagged
+abbrev pub tag_of : List ℕ → Result Tag Refusal
 tag_of r = tag_by (number_at 1 r 0)
 
 abbrev pub length_of : List ℕ → ℕ

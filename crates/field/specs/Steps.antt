@@ -11,22 +11,18 @@
 --     field_cases      a field is refused at its place (refused_at), or its tests pass and it is taken
 --     Takes            what is known of a field that is taken (takes); next_place, next_inside: the next place is in
 --                      the book or at its end
-use Rattle.std.specs.Prelude.{ℕ, ◌+◌, ◌-◌, ◌≤◌, ◌<◌, ◌≡◌, Bool, true, false, ◌&&◌, not, List, length, drop, leb, ltb, eqb}
+use Rattle.std.specs.Prelude.{ℕ, ◌+◌, ◌-◌, ◌*◌, ◌≤◌, ◌<◌, ◌≡◌, Bool, true, false, ◌&&◌, not, List, length, drop, leb, ltb, eqb, Result, Ok, Err}
 use Rattle.std.proofs.Math.Path.{refl, ap, subst}
-use Rattle.std.proofs.Common.{◌∙◌, arith, length-drop}
+use Rattle.std.proofs.Common.{sym, ◌∙◌, arith, length-drop}
 use borrow.Author.Tests.{ltb-false, not-false}
 use Rattle.content.specs.declared.Refusal.{Refusal}
 use Rattle.content.specs.declared.Refusal.TheVariants.{Torn, UnknownTag, OutOfOrder, TooMany, WrongVersion, WrongEnd}
-use Rattle.content.specs.declared.Checked.{Checked}
-use Rattle.content.specs.declared.Checked.TheVariants.{Sound, Refused}
 use Rattle.field.specs.declared.Tag.{Tag}
 use Rattle.field.specs.declared.Tag.TheVariants as tag
-use Rattle.field.specs.declared.Tagged.{Tagged}
-use Rattle.field.specs.declared.Tagged.TheVariants.{Known, Unknown}
 use Rattle.field.specs.declared.State.{State}
-use Rattle.field.specs.declared.Field.{Field}
-use Rattle.field.specs.declared.Field.TheVariants as field
-use Rattle.content.specs.Refusals.{on, curve_fault, claim_fault, on_sound}
+use Rattle.field.specs.declared.Taken.{Taken}
+use Rattle.field.specs.declared.Refused.{Refused}
+use Rattle.content.specs.Refusals.{Checked, number_of, on, curve_fault, claim_fault, on_sound}
 use Rattle.field.specs.Fields.{head_length, tag_of, length_of, content_of, content_at, version_in}
 
 -- "Curves are numbered from 0, at most 16; claims at most 256."
@@ -45,14 +41,14 @@ unfoldable pub version_fault : List ℕ → Checked
 version_fault content =
     on (not (eqb (length content) 1)) WrongVersion
     (on (not (is_version (version_in content))) WrongVersion
-    Sound)
+    (Ok tt))
 
 -- "13 length isn't 0 or a byte follows"
 unfoldable pub end_fault : List ℕ → ℕ → Checked
 end_fault content follow =
     on (not (eqb (length content) 0)) WrongEnd
     (on (ltb 0 follow) WrongEnd
-    Sound)
+    (Ok tt))
 
 -- "then by tag"
 unfoldable pub content_fault : Tag → ℕ → List ℕ → ℕ → Checked
@@ -96,21 +92,39 @@ after tag.Curve st v p = record { version = st.version; curves = st.curves + 1; 
 after tag.Claim st v p = record { version = st.version; curves = st.curves; claims = st.claims + 1; place = p }
 after tag.End st v p = record { version = st.version; curves = st.curves; claims = st.claims; place = p }
 
--- a field's answer
+-- a field's answer: it is taken, or refused at a place
+abbrev pub Field : Type 0
+Field = Result Taken Refused
+
+abbrev pub refused : {A : Type 0} → Refusal → (place : ℕ) → Result A Refused
+refused x p = Err (record { refusal = x; place = p })
+
+abbrev pub taken : Tag → State → Field
+taken t next = Ok (record { tag = t; state = next })
+
+-- of one that does not say its place yet
+abbrev pub at_place : ℕ → Result Taken Refusal → Field
+at_place p (Err x) = refused x p
+at_place p (Ok t) = Ok t
+
+-- "refusal number + 2^8 * place"
+abbrev pub refusal_word : Refusal → ℕ → ℕ
+refusal_word x p = number_of x + 256 * p
+
 abbrev pub answer : Checked → Tag → State → List ℕ → Field
-answer (Refused x) t st r = field.Refused x st.place
-answer Sound t st r = field.Taken t (after t st (version_in (content_of r)) (st.place + field_size r))
+answer (Err x) t st r = refused x st.place
+answer (Ok u) t st r = taken t (after t st (version_in (content_of r)) (st.place + field_size r))
 
 -- "2 unknown tag"
-unfoldable pub tagged : Tagged → State → List ℕ → Field
+unfoldable pub tagged : Result Tag Refusal → State → List ℕ → Field
 unfolding tagged_fault after
-tagged Unknown st r = field.Refused UnknownTag st.place
-tagged (Known t) st r = answer (tagged_fault t st r) t st r
+tagged (Err x) st r = refused x st.place
+tagged (Ok t) st r = answer (tagged_fault t st r) t st r
 
 -- "1 fewer than 3 bytes are left": r is what is left
 unfoldable pub step_on : State → List ℕ → Field
 unfolding tagged
-step_on st r = elim (ltb (length r) head_length) [ true ↦ field.Refused Torn st.place | false ↦ tagged (tag_of r) st r ]
+step_on st r = elim (ltb (length r) head_length) [ true ↦ refused Torn st.place | false ↦ tagged (tag_of r) st r ]
 
 unfoldable pub step_at : List ℕ → State → Field
 unfolding step_on
@@ -118,14 +132,25 @@ step_at s st = step_on st (drop st.place s)
 
 -- ---- laws
 
+-- an answer has one reading
+pub taken_same : {t u : Tag} {st next : State} → taken t st ≡ taken u next → (t ≡ u) × (st ≡ next)
+taken_same {t} {u} {st} {next} e =
+    let same : ◌≡◌ {A = Taken} (record { tag = t; state = st }) (record { tag = u; state = next }) = cc in
+    (ap (λ (x : Taken). x.tag) same, ap (λ (x : Taken). x.state) same)
+
+pub refused_same : {A : Type 0} {x y : Refusal} {p q : ℕ} → refused {A = A} x p ≡ refused y q → (x ≡ y) × (p ≡ q)
+refused_same {x} {y} {p} {q} e =
+    let same : ◌≡◌ {A = Refused} (record { refusal = x; place = p }) (record { refusal = y; place = q }) = cc in
+    (ap (λ (r : Refused). r.refusal) same, ap (λ (r : Refused). r.place) same)
+
 -- what a field that is taken tells: its tag, that it is in order, there is room for it, it is all there, and its
 -- content is sound
 pub record Takes (s : List ℕ) (st : State) (t : Tag) (next : State) : Type 0 where
-  pub is : tag_of (drop st.place s) ≡ Known t
+  pub is : tag_of (drop st.place s) ≡ Ok t
   pub ordered : in_order t st.version st.claims ≡ true
   pub room : full t st.curves st.claims ≡ false
   pub whole : field_size (drop st.place s) ≤ length (drop st.place s)
-  pub content : content_fault t st.curves (content_at s st.place) (length (drop st.place s) - field_size (drop st.place s)) ≡ Sound
+  pub content : content_fault t st.curves (content_at s st.place) (length (drop st.place s) - field_size (drop st.place s)) ≡ Ok tt
   pub then : next ≡ after t st (version_in (content_at s st.place)) (st.place + field_size (drop st.place s))
 
 pub after_place : (t : Tag) (st : State) (v p : ℕ) → (after t st v p).place ≡ p
@@ -143,18 +168,18 @@ module _ (s : List ℕ) (st : State) where
   moved t = after t st (version_in (content_of rest)) (st.place + field_size rest)
 
   -- a field is refused at its place, or its tests pass and it is taken
-  module _ (P : Field → Type 0) (no : (x : Refusal) → P (field.Refused x st.place))
-      (yes : (t : Tag) → tag_of rest ≡ Known t → tagged_fault t st rest ≡ Sound → P (field.Taken t (moved t))) where
-    by_fault : (t : Tag) (y : Checked) → tag_of rest ≡ Known t → tagged_fault t st rest ≡ y → P (answer y t st rest)
-    by_fault t (Refused x) is fault = no x
-    by_fault t Sound is fault = yes t is fault
+  module _ (P : Field → Type 0) (no : (x : Refusal) → P (refused x st.place))
+      (yes : (t : Tag) → tag_of rest ≡ Ok t → tagged_fault t st rest ≡ Ok tt → P (taken t (moved t))) where
+    by_fault : (t : Tag) (y : Checked) → tag_of rest ≡ Ok t → tagged_fault t st rest ≡ y → P (answer y t st rest)
+    by_fault t (Err x) is fault = no x
+    by_fault t (Ok u) is fault = yes t is fault
 
-    by_tag : (g : Tagged) → tag_of rest ≡ g → P (tagged g st rest)
+    by_tag : (g : Result Tag Refusal) → tag_of rest ≡ g → P (tagged g st rest)
     unfolding tagged
-    by_tag Unknown is = no UnknownTag
-    by_tag (Known t) is = by_fault t (tagged_fault t st rest) is refl
+    by_tag (Err x) is = no x
+    by_tag (Ok t) is = by_fault t (tagged_fault t st rest) is refl
 
-    by_length : (b : Bool) → P (elim b as (λ _. Field) [ true ↦ field.Refused Torn st.place | false ↦ tagged (tag_of rest) st rest ])
+    by_length : (b : Bool) → P (elim b as (λ _. Field) [ true ↦ refused Torn st.place | false ↦ tagged (tag_of rest) st rest ])
     by_length true = no Torn
     by_length false = by_tag (tag_of rest) refl
 
@@ -162,28 +187,28 @@ module _ (s : List ℕ) (st : State) where
     unfolding step_at
     field_cases = by_length (ltb (length rest) head_length)
 
-  by_tests : (t : Tag) (next : State) (t' : Tag) → tag_of rest ≡ Known t' → tagged_fault t' st rest ≡ Sound → field.Taken t' (moved t') ≡ field.Taken t next → Takes s st t next
+  by_tests : (t : Tag) (next : State) (t' : Tag) → tag_of rest ≡ Ok t' → tagged_fault t' st rest ≡ Ok tt → taken t' (moved t') ≡ taken t next → Takes s st t next
   unfolding tagged_fault
   by_tests t next t' tagged-so sound same =
       let first = on_sound (not (in_order t' st.version st.claims)) OutOfOrder _ sound in
       let second = on_sound (full t' st.curves st.claims) TooMany _ first.1 in
       let third = on_sound (ltb (length rest) (field_size rest)) Torn _ second.1 in
-      let is : t' ≡ t = cc in
-      let to : next ≡ moved t' = cc in
+      let is : t' ≡ t = (taken_same same).0 in
+      let to : next ≡ moved t' = sym (taken_same same).1 in
       subst (λ (t'' : Tag). next ≡ moved t'' → Takes s st t'' next) is
       (λ to. record { is = tagged-so; ordered = not-false _ first.0; room = second.0; whole = ltb-false _ _ third.0; content = third.1; then = to })
       (to ∙ ap moved is)
 
-  pub takes : (t : Tag) (next : State) → step_at s st ≡ field.Taken t next → Takes s st t next
+  pub takes : (t : Tag) (next : State) → step_at s st ≡ taken t next → Takes s st t next
   takes t next =
-      field_cases (λ (f : Field). f ≡ field.Taken t next → Takes s st t next)
+      field_cases (λ (f : Field). f ≡ taken t next → Takes s st t next)
       (λ x e. let z : ◌≡◌ {A = ℕ} 0 1 = cc in absurd (omega (arith, z))) (by_tests t next)
 
   -- a field that is refused is refused at its first byte
-  pub refused_at : (x : Refusal) (p : ℕ) → step_at s st ≡ field.Refused x p → p ≡ st.place
+  pub refused_at : (x : Refusal) (p : ℕ) → step_at s st ≡ refused x p → p ≡ st.place
   refused_at x p =
-      field_cases (λ (f : Field). f ≡ field.Refused x p → p ≡ st.place)
-      (λ x' e. cc) (λ t is sound e. cc)
+      field_cases (λ (f : Field). f ≡ refused x p → p ≡ st.place)
+      (λ x' e. sym (refused_same e).1) (λ t is sound e. cc)
 
 pub next_place : {s : List ℕ} {st : State} {t : Tag} {next : State} → Takes s st t next → next.place ≡ st.place + field_size (drop st.place s)
 next_place {st = st} {t = t} taken = ap (λ (x : State). x.place) taken.then ∙ after_place t st _ _

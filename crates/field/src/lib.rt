@@ -1,8 +1,9 @@
 // One field of a book: a step over it, or why it is refused.
 #![tactic(auto)]
 
-ghost use Rattle.std.specs.Prelude.{◌≡◌};
-ghost use Rattle.field.specs.Fields.{tag_number};
+ghost use Rattle.std.specs.Prelude.{◌≡◌, ◌<◌};
+ghost use Rattle.field.specs.Fields.{tag_number, tag_by};
+ghost use Rattle.field.specs.Steps.{refusal_word};
 
 use content::Refusal;
 
@@ -10,38 +11,45 @@ pub mod places;
 pub mod reader;
 pub mod steps;
 
-// The four fields.
-#[derive(Clone, Copy)]
+// The four fields, each with its number.
+#[derive(Clone, Copy, PartialEq, Eq)]
 pub enum Tag {
-    Version,
-    Curve,
-    Claim,
-    End,
+    Version = 0x10,
+    Curve = 0x01,
+    Claim = 0x02,
+    End = 0x7F,
 }
 
 impl Tag {
+    #[tactic(auto, unfolding(crate::specs::Fields::tag_number))]
     pub fn number(self) -> u8
         ensures { result ≡ tag_number self }
     {
-        match self {
-            Tag::Version => 0x10,
-            Tag::Curve => 0x01,
-            Tag::Claim => 0x02,
-            Tag::End => 0x7F,
-        }
+        self as u8
     }
 }
 
 // What a field's first byte says.
-#[derive(Clone, Copy)]
-pub enum Tagged {
-    Known(Tag),
-    Unknown,
+impl TryFrom<u8> for Tag {
+    type Error = Refusal;
+
+    ghost try_from_gives = { λ byte tag. tag ≡ tag_by byte };
+
+    #[tactic(auto, unfolding(crate::specs::Fields::tag_by))]
+    fn try_from(byte: u8) -> Result<Tag, Refusal> {
+        match byte {
+            0x10 => Ok(Tag::Version),
+            0x01 => Ok(Tag::Curve),
+            0x02 => Ok(Tag::Claim),
+            0x7F => Ok(Tag::End),
+            _ => Err(Refusal::UnknownTag),
+        }
+    }
 }
 
 // Where a reader stands: what came before `place`, the first byte of the next field. No version is 0: that says that
 // none has come yet.
-#[derive(Clone, Copy)]
+#[derive(Clone, Copy, PartialEq, Eq)]
 pub struct State {
     pub version: u8,
     pub curves: usize,
@@ -55,9 +63,26 @@ impl State {
     pub const MAX_CLAIMS: usize = 256;
 }
 
-// A field's answer: the field and the state after it, or the refusal with its place.
-#[derive(Clone, Copy)]
-pub enum Field {
-    Taken(Tag, State),
-    Refused(Refusal, usize),
+// A field that is taken: its tag, and the state after it.
+#[derive(Clone, Copy, PartialEq, Eq)]
+pub struct Taken {
+    pub tag: Tag,
+    pub state: State,
+}
+
+// A refusal with its place.
+#[derive(Clone, Copy, PartialEq, Eq)]
+pub struct Refused {
+    pub refusal: Refusal,
+    pub place: usize,
+}
+
+impl Refused {
+    // Both as one number: the refusal's + 2^8 * the place.
+    pub fn word(self) -> u64
+        requires { self.place < 65536 }
+        ensures { result ≡ refusal_word self.refusal self.place }
+    {
+        self.refusal.number() as u64 + 256 * self.place as u64
+    }
 }

@@ -3,7 +3,7 @@ ghost use Rattle.std.specs.Prelude.{◌≡◌};
 ghost use Rattle.field.specs.Steps.{step_at};
 
 use crate::steps::field_at;
-use crate::{Field, State};
+use crate::{Refused, State, Taken};
 
 // Any bytes as a book, and any state: where the reader stands in it, and what came before.
 #[derive(Clone, Copy)]
@@ -20,7 +20,7 @@ impl<'a> Reader<'a> {
     }
 
     // A step over the field at the reader's place: the covered field reader, called on what the reader holds.
-    pub fn next(self) -> Field
+    pub fn next(self) -> Result<Taken, Refused>
         ensures { result ≡ step_at self.entry.book.now self.entry.state }
     {
         field_at(self.book, self.state)
@@ -28,7 +28,7 @@ impl<'a> Reader<'a> {
 }
 
 // The same with the book and the state as they are. Whoever reads a book, in whatever way, goes by these steps.
-pub fn step(book: &[u8], state: State) -> Field
+pub fn step(book: &[u8], state: State) -> Result<Taken, Refused>
     ensures { result ≡ step_at book.now state }
 {
     Reader::at(book, state).next()

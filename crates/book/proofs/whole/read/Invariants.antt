@@ -3,8 +3,8 @@ use lib.ListN.{length}
 use Rattle.book.specs.Held.{Reads}
 use Rattle.book.proofs.whole.read.Given as goal
 
-abbrev pub invariant-loop-tag : goal.invariant-loop-tag
-invariant-loop-tag l = Reads l.book l.state (record { curves = l.curves; claims = l.claims })
+abbrev pub invariant-loop-taken : goal.invariant-loop-taken
+invariant-loop-taken l = Reads l.book l.state l.places
 
-abbrev pub decreases-loop-tag : goal.decreases-loop-tag
-decreases-loop-tag l = length l.book - l.state.place
+abbrev pub decreases-loop-taken : goal.decreases-loop-taken
+decreases-loop-taken l = length l.book - l.state.place
