@@ -2,7 +2,7 @@
 // which of two is slower. How a curve is held is known here alone.
 #![tactic(auto)]
 
-ghost use Rattle.std.specs.Prelude.{◌≡◌};
+ghost use Rattle.std.specs.Prelude.{◌≡◌, length};
 ghost use Rattle.curve.specs.Held.{held_over, steps_in, steps_of};
 ghost use Rattle.curve.specs.Kinds.{named_by, within};
 
@@ -58,7 +58,8 @@ impl Curve {
     }
 
     pub fn held(&self) -> Held<'_>
-        ensures { steps_of result ≡ steps_in self.now }
+        ensures steps { steps_of result ≡ steps_in self.now }
+        ensures room { length result.rises.now ≡ 256 }
     {
         Held {
             form: self.form,

@@ -26,14 +26,14 @@ returns-then-form-gt-MAX_UNITS c = no (λ w. omega (arith, w.increment_fits))
 pub returns-then-greatest : goal.returns-then-greatest
 returns-then-greatest c =
     let s : Steps = steps_in c.args.f.now in
-    let greatest = greatest_is s _ _ (omega arith) c.held-held.ensures c.value_at-greatest.ensures in
+    let greatest = greatest_is s _ _ (omega arith) c.held-held.ensures.steps c.value_at-greatest.ensures in
     no (λ w. absurd (omega (arith, (well_sized {s = s} w).last_fits, greatest, c.if-greatest.true)))
 
 pub returns : goal.returns
 returns c =
     let s : Steps = steps_in c.args.f.now in
-    let greatest = greatest_is s _ _ (omega arith) c.held-held.ensures c.value_at-greatest.ensures in
-    subst (Told (WellFormed (curve_of c.args.f.now))) (sym (c.closes.ensures ∙ ap closes c.held-held.ensures))
+    let greatest = greatest_is s _ _ (omega arith) c.held-held.ensures.steps c.value_at-greatest.ensures in
+    subst (Told (WellFormed (curve_of c.args.f.now))) (sym (c.closes.ensures ∙ ap closes c.held-held.ensures.steps))
     (told-map
     (λ closed. sized_well {s = s} (record {
       period_positive = omega arith;
