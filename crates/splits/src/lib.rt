@@ -1,35 +1,65 @@
 // Kind 3, the convolution: ticks and splits, nested.
 #![tactic(auto)]
 
-ghost use Rattle.std.specs.Prelude.{◌≡◌, true, ◌+◌, ◌≤◌, length, set};
+ghost use Rattle.std.specs.Prelude.{◌≡◌, true};
 ghost use Rattle.minplus.specs.Claim.{convolution, equals};
-ghost use Rattle.curve.specs.Steps.{Lent, curve_from, stepped};
-ghost use Rattle.curve.specs.Held.{held_as};
+ghost use Rattle.curve.specs.Steps.{Lent, curve_from};
+ghost use Rattle.curve.specs.Held.{steps_of};
 ghost use Rattle.search.specs.Break.{Searched, first_of_tried};
-ghost use Rattle.splits.specs.Parts.{carried_part, listed_over, work_room, Carries, carried_in};
+ghost use Rattle.splits.specs.Parts.{Carries, carried_in, carried_put, no_work};
 ghost use Rattle.splits.specs.Reach.{late_of, reach_of};
-ghost use Rattle.splits.specs.Splits.{left_curve, right_curve, Foldable};
+ghost use Rattle.splits.specs.Splits.{Foldable};
 
-use curve::values::fill;
 use curve::walks::Walk;
-use curve::{Form, Ticks, Units};
-use search::{Compared, Found};
+use curve::{Curve, Held, Ticks, Units};
+use search::{Break, Compared};
 
-// Where the parts of the lent numbers begin. At their front stand f's values, up to the tick from which on no split is
-// tried; then g's listed values,
-const RIGHT: usize = 512;
+// What a search works in. What stands there before a search does not matter, and after it it is nobody's.
+#[derive(Drop)]
+pub struct Work {
+    // f's values, up to the tick from which on no split is tried.
+    left: [u32; Work::SETTLED],
+    // g's listed values.
+    right: [u32; Curve::MAX_LISTED],
+    // The least sum of each tick over the splits that g lists before its rank,
+    near: [u32; Work::SETTLED],
+    // that over the splits of its first period,
+    last: [u32; Work::SETTLED],
+    // and that over all splits from its rank on, of the ticks of one period of g.
+    carried: [u32; Curve::MAX_LISTED],
+}
 
-// the least sum of each tick over the splits that g lists before its rank,
-const NEAR: usize = 768;
+impl Work {
+    // Two curves list no more than this together, and one tick less is settled.
+    const SETTLED: usize = 2 * Curve::MAX_LISTED;
 
-// that over the splits of its first period,
-const LAST: usize = 1_280;
+    pub fn new() -> Work
+        ensures { result ≡ no_work }
+    {
+        Work {
+            left: [0; Work::SETTLED],
+            right: [0; Curve::MAX_LISTED],
+            near: [0; Work::SETTLED],
+            last: [0; Work::SETTLED],
+            carried: [0; Curve::MAX_LISTED],
+        }
+    }
 
-// and that over all splits from its rank on, of the ticks of one period of g.
-const CARRIED: usize = 1_792;
-
-// How many numbers are lent. What they are before a search does not matter, and after it they are nobody's.
-pub const WORK: usize = 2_048;
+    // The least over the splits of a tick from g's rank on: that over its first period, or what was a period before the
+    // tick, with g's increment. It takes the place of what was a period before.
+    fn carry(&mut self, at: usize, added: u32, turn: usize, gain: u32, again: bool) -> u32
+        requires { Carries self.old at added turn gain again }
+        ensures value { result ≡ carried_in self.old at added turn gain again }
+        ensures work_after { self.new ≡ carried_put self.old turn (carried_in self.old at added turn gain again) }
+    {
+        let mut least = self.last[at] + added;
+        if again {
+            least = least.min(self.carried[turn] + gain);
+        }
+        self.carried[turn] = least;
+        least
+    }
+}
 
 // How far v goes in the splits u + v = n that are tried. Of a curve with itself a split and its mirror, v + u, give the
 // same sum.
@@ -40,101 +70,61 @@ fn reach(itself: bool, n: usize) -> usize
 }
 
 // The first tick at which that comes to g's rank.
-fn late_from(itself: bool, start: usize) -> usize
-    requires { start ≤ work_room }
-    ensures { result ≡ late_of itself start }
+fn late_from(itself: bool, start: Ticks) -> usize
+    ensures { result ≡ late_of itself start.0 }
 {
+    let start = start.0 as usize;
     if itself { 2 * start } else { start }
 }
 
-// The least over the splits of a tick from g's rank on: that over its first period, or what was a period before the
-// tick, with g's increment. It takes the place of what was a period before.
-fn carry(work: &mut [u32], at: usize, added: u32, turn: usize, gain: u32, again: bool) -> u32
-    requires { Carries work.old at added turn gain again }
-    ensures value { result ≡ carried_in work.old at added turn gain again }
-    ensures work_after { work.new ≡ set work.old (carried_part + turn) (carried_in work.old at added turn gain again) }
-{
-    let mut least = work[LAST + at] + added;
-    if again {
-        let earlier = work[CARRIED + turn] + gain;
-        if earlier < least {
-            least = earlier;
-        }
-    }
-    work[CARRIED + turn] = least;
-    least
-}
-
-// The first of the `tried` ticks at which h differs from the convolution of f and g, whose ranks, periods and
-// increments are passed and whose values stand in the lent numbers. Only splits that g lists are tried, as a later one
-// is carried over g's periods, and of a curve with itself only the smaller half; and from the tick `settled` on, past
-// the first periods of both, none is, as all is what it was a period of f before, and c more. The loop counts the ticks
-// that it compares, the one that it stops at included.
+// The first of the `tried` ticks at which h differs from the convolution of f and g, whose values stand in the working
+// numbers. Only splits that g lists are tried, as a later one is carried over g's periods, and of a curve with itself
+// only the smaller half; and from the tick `settled` on, past the first periods of both, none is, as all is what it was
+// a period of f before, and c more. The tick that the loop stops at is compared too.
 fn first_split(
     itself: bool,
-    rank: usize,
-    period: usize,
-    increment: u32,
-    start: usize,
-    span: usize,
-    gain: u32,
-    h: Form,
-    claimed: &[u32],
-    work: &mut [u32],
+    f: Held,
+    g: Held,
+    h: Held,
     tried: usize,
+    work: &mut Work,
 ) -> Compared
-    requires { Foldable itself (left_curve rank period increment work.old) (right_curve start span gain work.old) work.old tried × Lent (held_as h claimed.now) }
-    ensures { result ≡ first_of_tried (equals convolution (left_curve rank period increment work.old) (right_curve start span gain work.old) (curve_from (held_as h claimed.now))) tried }
+    requires { Foldable itself (curve_from (steps_of f)) (curve_from (steps_of g)) work.old tried × Lent (steps_of h) }
+    ensures { result ≡ first_of_tried (equals convolution (curve_from (steps_of f.entry)) (curve_from (steps_of g.entry)) (curve_from (steps_of h.entry))) tried }
 {
+    let period = f.form.period.0 as usize;
+    let start = g.form.rank.0 as usize;
+    let span = g.form.period.0 as usize;
     let count = start + span;
-    let settled = rank + period + count - 1;
-    let late = late_from(itself, start);
-    let mut walk = Walk::start(h);
-    let mut found = Found::Nowhere;
+    let settled = f.form.rank.0 as usize + period + count - 1;
+    let late = late_from(itself, g.form.rank);
+    let mut compared = Compared {
+        found: None,
+        ticks: Ticks(tried as u32),
+    };
+    let mut walk = Walk::start(h.form);
     let mut at: usize = 0;
     let mut added: u32 = 0;
     let mut turn: usize = 0;
-    let mut n: usize = 0;
-    'ticks: while n < tried {
+    'ticks: for n in 0..tried {
         let reached = reach(itself, n);
         if n < settled {
-            let mut near = work[n] + work[RIGHT];
-            let mut end = start;
-            if reached < end {
-                end = reached + 1;
+            let mut near = work.left[n] + work.right[0];
+            for v in 1..start.min(reached + 1) {
+                near = near.min(work.left[n - v] + work.right[v]);
             }
-            let mut v: usize = 1;
-            while v < end {
-                let split = work[n - v] + work[RIGHT + v];
-                if split < near {
-                    near = split;
-                }
-                v += 1;
-            }
-            work[NEAR + n] = near;
+            work.near[n] = near;
         }
-        let mut due = work[NEAR + at] + added;
+        let mut due = work.near[at] + added;
         if late <= n {
             if n < settled {
-                let mut last = work[n - start] + work[RIGHT + start];
-                let mut end = count;
-                if reached < end {
-                    end = reached + 1;
+                let mut last = work.left[n - start] + work.right[start];
+                for v in start + 1..count.min(reached + 1) {
+                    last = last.min(work.left[n - v] + work.right[v]);
                 }
-                let mut v: usize = start + 1;
-                while v < end {
-                    let split = work[n - v] + work[RIGHT + v];
-                    if split < last {
-                        last = split;
-                    }
-                    v += 1;
-                }
-                work[LAST + n] = last;
+                work.last[n] = last;
             }
-            let least = carry(work, at, added, turn, gain, late + span <= n);
-            if least < due {
-                due = least;
-            }
+            due = due.min(work.carry(at, added, turn, g.form.increment, late + span <= n));
             turn += 1;
             if turn == span {
                 turn = 0;
@@ -142,70 +132,42 @@ fn first_split(
         }
         let value = walk.value;
         if due as u64 != value.0 {
-            found = Found::At {
+            let found = Break {
                 tick: Ticks(n as u32),
                 left: Units(due as u64),
                 right: value,
             };
-            n += 1;
+            compared = Compared {
+                found: Some(found),
+                ticks: Ticks(n as u32 + 1),
+            };
             break 'ticks;
         }
-        walk = walk.next(h, claimed);
+        walk = walk.next(h);
         at += 1;
         if at == settled {
             at = settled - period;
-            added += increment;
+            added += f.form.increment;
         }
-        n += 1;
     }
-    Compared {
-        found,
-        ticks: Ticks(n as u32),
-    }
-}
-
-// A curve's first values, in a part of the lent numbers.
-fn put_listed(form: Form, rises: &[u32], work: &mut [u32], from: usize, count: usize)
-    requires { (from + count ≤ length work.old) × (count ≤ work_room) }
-    ensures { work.new ≡ listed_over (stepped (held_as form rises.now)) from count work.old }
-{
-    fill(form, rises, &mut work[from..from + count]);
+    compared
 }
 
 // The same of curves that are lent. Whoever knows the book says whether it is a curve with itself.
 pub fn first_apart(
     itself: bool,
-    f: Form,
-    left: &[u32],
-    g: Form,
-    right: &[u32],
-    h: Form,
-    claimed: &[u32],
+    f: Held,
+    g: Held,
+    h: Held,
     tried: usize,
-    work: &mut [u32],
+    work: &mut Work,
 ) -> Compared
-    requires { Searched (held_as f left.now) (held_as g right.now) (held_as h claimed.now) tried × (itself ≡ true → held_as f left.now ≡ held_as g right.now) × (work_room ≤ length work.old) }
-    ensures { result ≡ first_of_tried (equals convolution (curve_from (held_as f left.now)) (curve_from (held_as g right.now)) (curve_from (held_as h claimed.now))) tried }
+    requires { Searched (steps_of f) (steps_of g) (steps_of h) tried × (itself ≡ true → steps_of f ≡ steps_of g) }
+    ensures { result ≡ first_of_tried (equals convolution (curve_from (steps_of f.entry)) (curve_from (steps_of g.entry)) (curve_from (steps_of h.entry))) tried }
 {
-    let rank = f.rank.0 as usize;
-    let period = f.period.0 as usize;
-    let start = g.rank.0 as usize;
-    let span = g.period.0 as usize;
-    let count = start + span;
-    let settled = rank + period + count - 1;
-    put_listed(f, left, work, 0, settled);
-    put_listed(g, right, work, RIGHT, count);
-    first_split(
-        itself,
-        rank,
-        period,
-        f.increment,
-        start,
-        span,
-        g.increment,
-        h,
-        claimed,
-        work,
-        tried,
-    )
+    let count = g.form.rank.0 as usize + g.form.period.0 as usize;
+    let settled = f.form.rank.0 as usize + f.form.period.0 as usize + count - 1;
+    f.fill(&mut work.left[..settled]);
+    g.fill(&mut work.right[..count]);
+    first_split(itself, f, g, h, tried, work)
 }
