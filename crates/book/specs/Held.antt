@@ -17,8 +17,9 @@ use Rattle.field.specs.declared.Tag.{Tag}
 use Rattle.field.specs.declared.Tag.TheVariants as tag
 use Rattle.field.specs.declared.State.{State}
 use Rattle.field.specs.declared.Refused.{Refused}
+use Rattle.field.specs.declared.Taken.{Taken}
 use Rattle.field.specs.Steps as field
-use Rattle.field.specs.Steps.{max_curves, max_claims, full, after, step_at, takes, next_inside}
+use Rattle.field.specs.Steps.{max_curves, max_claims, full, after, step_at, Takes, takes, next_inside}
 use Rattle.book.specs.declared.Places.{Places}
 use Rattle.book.specs.declared.Book.{Book}
 use Rattle.book.specs.Reading.{Contents, Read, sound, refused, max_bytes, start, read_from, read_book}
@@ -94,77 +95,77 @@ module _ {s : List ℕ} {st : State} {places : Places} (reads : Reads s st place
       go zero same enough = absurd (omega (arith, enough, reads.inside))
       go (suc k) same enough = (k, same, enough)
 
-  pub reads_refused : (x : Refusal) (p : ℕ) → step_at s st ≡ field.refused x p → read_book s ≡ refused x p
+  pub reads_refused : {r : Refused} → step_at s st ≡ Err r → read_book s ≡ refused r.refusal r.place
   unfolding read_from
-  reads_refused x p e = sym (rw (e, read_from) at again.1)
+  reads_refused e = sym (rw (e, read_from) at again.1)
 
-  pub reads_end : (next : State) → step_at s st ≡ field.taken tag.End next
-      → read_book s ≡ sound (record { version = st.version; curves = reads.curves; claims = reads.claims })
-  unfolding read_from
-  reads_end next e = sym (rw (e, read_from) at again.1)
+  -- a field that is taken
+  module _ {f : Taken} (e : step_at s st ≡ Ok f) where
+    taken : Takes s st f.tag f.state
+    taken = takes s st f.tag f.state e
 
-  -- a field that is taken brings the reader on
-  pub place_inside : (t : Tag) (next : State) → step_at s st ≡ field.taken t next → (st.place < next.place) × (next.place ≤ length s)
-  place_inside t next e = next_inside (takes s st t next e) reads.inside
+    -- it brings the reader on
+    pub place_inside : (st.place < f.state.place) × (f.state.place ≤ length s)
+    place_inside = next_inside taken reads.inside
 
-  -- there is room to note its place, which fits 16 bits
-  pub curve_room : (next : State) → step_at s st ≡ field.taken tag.Curve next → st.curves < max_curves
-  unfolding full
-  curve_room next e = leb-false _ _ (takes s st tag.Curve next e).room
+    -- there is room to note its place, which fits 16 bits
+    pub curve_room : f.tag ≡ tag.Curve → st.curves < max_curves
+    unfolding full
+    curve_room is = leb-false _ _ (rw is at taken.room)
 
-  pub claim-room : (next : State) → step_at s st ≡ field.taken tag.Claim next → st.claims < max_claims
-  unfolding full
-  claim-room next e = leb-false _ _ (takes s st tag.Claim next e).room
+    pub claim-room : f.tag ≡ tag.Claim → st.claims < max_claims
+    unfolding full
+    claim-room is = leb-false _ _ (rw is at taken.room)
+
+    pub reads_end : f.tag ≡ tag.End → read_book s ≡ sound (record { version = st.version; curves = reads.curves; claims = reads.claims })
+    unfolding read_from
+    reads_end is = sym (rw (e, is, read_from) at again.1)
+
+    moved_on : (curves claims : List ℕ) → f.state.curves ≡ length curves → f.state.claims ≡ length claims
+        → ((k : ℕ) → read_from (suc k) s st reads.curves reads.claims ≡ read_from k s f.state curves claims)
+        → (after-it : Places) → after-it ≡ places_of curves claims → Reads s f.state after-it
+    moved_on curves claims curve_count claim-count on-to after-it held = record {
+      steps = again.0;
+      curves = curves;
+      claims = claims;
+      same = sym (on-to again.0) ∙ again.1;
+      enough = omega (arith, again.2, place_inside.0);
+      inside = place_inside.1;
+      short = reads.short;
+      held = held;
+      curve_count = curve_count;
+      claim-count = claim-count;
+    }
+
+    pub reads_version : f.tag ≡ tag.Version → Reads s f.state places
+    unfolding read_from after
+    reads_version is =
+        let next = rw is at taken.then in
+        moved_on reads.curves reads.claims
+        (ap (λ (x : State). x.curves) next ∙ reads.curve_count) (ap (λ (x : State). x.claims) next ∙ reads.claim-count)
+        (λ k. rw (e, is, read_from)) places reads.held
+
+    pub reads_curve : f.tag ≡ tag.Curve → Reads s f.state (record { curves = set places.curves st.curves st.place; claims = places.claims })
+    unfolding read_from after
+    reads_curve is =
+        let next = rw is at taken.then in
+        let room : length reads.curves < max_curves = rw (← reads.curve_count) (curve_room is) in
+        moved_on (reads.curves ++ (st.place ∷ [])) reads.claims
+        (ap (λ (x : State). x.curves) next ∙ rw (reads.curve_count, length-append reads.curves (st.place ∷ [])))
+        (ap (λ (x : State). x.claims) next ∙ reads.claim-count)
+        (λ k. rw (e, is, read_from)) _
+        (rw (reads.held, reads.curve_count, array_more max_curves reads.curves st.place (length reads.curves) refl room))
+
+    pub reads_claim : f.tag ≡ tag.Claim → Reads s f.state (record { curves = places.curves; claims = set places.claims st.claims st.place })
+    unfolding read_from after
+    reads_claim is =
+        let next = rw is at taken.then in
+        let room : length reads.claims < max_claims = rw (← reads.claim-count) (claim-room is) in
+        moved_on reads.curves (reads.claims ++ (st.place ∷ []))
+        (ap (λ (x : State). x.curves) next ∙ reads.curve_count)
+        (ap (λ (x : State). x.claims) next ∙ rw (reads.claim-count, length-append reads.claims (st.place ∷ [])))
+        (λ k. rw (e, is, read_from)) _
+        (rw (reads.held, reads.claim-count, array_more max_claims reads.claims st.place (length reads.claims) refl room))
 
   pub place_near : st.place < 65536
   place_near = omega (arith, reads.short, reads.inside)
-
-  moved_on : (t : Tag) (next : State) → step_at s st ≡ field.taken t next → (curves claims : List ℕ) → next.curves ≡ length curves → next.claims ≡ length claims
-      → ((k : ℕ) → read_from (suc k) s st reads.curves reads.claims ≡ read_from k s next curves claims)
-      → (after-it : Places) → after-it ≡ places_of curves claims → Reads s next after-it
-  moved_on t next e curves claims curve_count claim-count on-to after-it held =
-      let past = place_inside t next e in
-      record {
-        steps = again.0;
-        curves = curves;
-        claims = claims;
-        same = sym (on-to again.0) ∙ again.1;
-        enough = omega (arith, again.2, past.0);
-        inside = past.1;
-        short = reads.short;
-        held = held;
-        curve_count = curve_count;
-        claim-count = claim-count;
-      }
-
-  pub reads_version : (next : State) → step_at s st ≡ field.taken tag.Version next → Reads s next places
-  unfolding read_from after
-  reads_version next e =
-      let then = (takes s st tag.Version next e).then in
-      moved_on tag.Version next e reads.curves reads.claims
-      (ap (λ (x : State). x.curves) then ∙ reads.curve_count) (ap (λ (x : State). x.claims) then ∙ reads.claim-count)
-      (λ k. rw (e, read_from)) places reads.held
-
-  pub reads_curve : (next : State) → step_at s st ≡ field.taken tag.Curve next
-      → Reads s next (record { curves = set places.curves st.curves st.place; claims = places.claims })
-  unfolding read_from after
-  reads_curve next e =
-      let then = (takes s st tag.Curve next e).then in
-      let room : length reads.curves < max_curves = rw (← reads.curve_count) (curve_room next e) in
-      moved_on tag.Curve next e (reads.curves ++ (st.place ∷ [])) reads.claims
-      (ap (λ (x : State). x.curves) then ∙ rw (reads.curve_count, length-append reads.curves (st.place ∷ [])))
-      (ap (λ (x : State). x.claims) then ∙ reads.claim-count)
-      (λ k. rw (e, read_from)) _
-      (rw (reads.held, reads.curve_count, array_more max_curves reads.curves st.place (length reads.curves) refl room))
-
-  pub reads_claim : (next : State) → step_at s st ≡ field.taken tag.Claim next
-      → Reads s next (record { curves = places.curves; claims = set places.claims st.claims st.place })
-  unfolding read_from after
-  reads_claim next e =
-      let then = (takes s st tag.Claim next e).then in
-      let room : length reads.claims < max_claims = rw (← reads.claim-count) (claim-room next e) in
-      moved_on tag.Claim next e reads.curves (reads.claims ++ (st.place ∷ []))
-      (ap (λ (x : State). x.curves) then ∙ reads.curve_count)
-      (ap (λ (x : State). x.claims) then ∙ rw (reads.claim-count, length-append reads.claims (st.place ∷ [])))
-      (λ k. rw (e, read_from)) _
-      (rw (reads.held, reads.claim-count, array_more max_claims reads.claims st.place (length reads.claims) refl room))

@@ -23,7 +23,8 @@ use Rattle.numbers.specs.Lists.{forall_more, flat_more}
 use Rattle.numbers.specs.Put.{bytes_of, length-bytes}
 use Rattle.numbers.specs.Back.{Bytes, bytes_none, bytes-append, bytes_flat}
 use Rattle.numbers.proofs.HighFirst.{bytes_of_lem}
-use Rattle.content.specs.Layout.{curve_in, curve_bytes, Statement, claim_in, claim_bytes}
+use Rattle.content.specs.declared.Statement.{Statement}
+use Rattle.content.specs.Layout.{curve_in, curve_bytes, claim_in, claim_bytes}
 use Rattle.content.specs.Sound.{WellStated}
 use Rattle.content.specs.Back.{bytes_curve, curve_small, bytes-claim, claim_small}
 use Rattle.field.specs.declared.Tag.{Tag}

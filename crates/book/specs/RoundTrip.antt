@@ -27,7 +27,8 @@ use Rattle.numbers.specs.Numbers.{number_at}
 use Rattle.numbers.specs.Put.{bytes_of, length-bytes}
 use Rattle.numbers.specs.Back.{Bytes}
 use Rattle.content.specs.declared.Refusal.TheVariants.{BookTooLong}
-use Rattle.content.specs.Layout.{curve_in, curve_bytes, Statement, third_width, claim_in, claim_bytes}
+use Rattle.content.specs.declared.Statement.{Statement}
+use Rattle.content.specs.Layout.{curve_in, curve_bytes, third_width, claim_in, claim_bytes}
 use Rattle.content.specs.Sound.{WellStated, curve_well_formed, claim_sound}
 use Rattle.content.specs.Back.{curve_back, curve_taken, curve_again, curve_small, claim_back, claim_taken, claim_again, claim_small}
 use Rattle.field.specs.declared.Tag.{Tag}
