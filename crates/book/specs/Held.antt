@@ -12,8 +12,6 @@ use Rattle.std.proofs.Common.{◌∙◌, arith}
 use Rattle.std.proofs.Math.ListN.{length, length-append}
 use borrow.Author.Tests.{le-ltb, leb-false}
 use Rattle.curve.specs.Filled.{in_array, array_more}
-use Rattle.content.specs.declared.Refusal.{Refusal}
-use Rattle.field.specs.declared.Tag.{Tag}
 use Rattle.field.specs.declared.Tag.TheVariants as tag
 use Rattle.field.specs.declared.State.{State}
 use Rattle.field.specs.declared.Refused.{Refused}

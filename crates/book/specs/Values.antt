@@ -7,7 +7,7 @@
 --     value_asked      the answer, by asked_of; max_tick: the largest tick; asked_refused, asked_none, asked_far,
 --                      asked_value: by what the book is
 --     told             the answer for C; asked_near: its place fits
-use Rattle.std.specs.Prelude.{ℕ, ◌+◌, ◌*◌, ◌≤◌, ◌<◌, ◌≡◌, Bool, true, false, List, length, get_or, leb, ltb, Result, Ok, Err}
+use Rattle.std.specs.Prelude.{ℕ, ◌≤◌, ◌<◌, ◌≡◌, Bool, true, false, List, length, get_or, leb, ltb, Result, Ok, Err}
 use Rattle.std.proofs.Math.Path.{refl}
 use Rattle.std.proofs.Common.{ap, arith}
 use borrow.Author.Tests.{le-leb, lt-leb, lt-ltb, le-ltb}

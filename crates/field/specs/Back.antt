@@ -12,7 +12,7 @@
 --     field_again               a field that was taken is the bytes of its tag and its content; end-last: after the end
 --                               nothing is left
 use Prim.Native.Nat.{ℕ, ◌+◌, ◌-◌, ◌≤◌, ◌<◌}
-use Rattle.std.specs.Prelude.{◌≡◌, Bool, true, false, not, drop, ltb, eqb, Result, Ok}
+use Rattle.std.specs.Prelude.{◌≡◌, Bool, true, false, not, drop, ltb, eqb, Ok}
 use Rattle.std.proofs.Math.Path.{refl, ap, ap₂}
 use Rattle.std.proofs.Common.{sym, ◌∙◌, length-append, take-add, take_all, take_at}
 use mathlib.Core.List.{List, [], ◌++◌, append-nil, append_assoc}
@@ -28,7 +28,6 @@ use Rattle.numbers.specs.Put.{bytes_of, length-bytes}
 use Rattle.numbers.specs.Back.{Bytes, bytes_take, bytes_drop, bytes-append, length_then, number_on}
 use Rattle.numbers.proofs.HighFirst.{bytes_of_lem, number_front, bytes_again, bytes_then}
 use Rattle.content.specs.declared.Refusal.TheVariants.{WrongVersion, WrongEnd}
-use Rattle.content.specs.declared.Refusal.{Refusal}
 use Rattle.content.specs.Refusals.{Checked, on, on_sound}
 use Rattle.field.specs.declared.Tag.{Tag}
 use Rattle.field.specs.declared.Tag.TheVariants.{Version, Curve, Claim, End}

@@ -16,7 +16,7 @@ use Rattle.std.proofs.Math.Path.{refl, ap, subst}
 use Rattle.std.proofs.Common.{sym, ◌∙◌, arith, length-drop}
 use borrow.Author.Tests.{ltb-false, not-false}
 use Rattle.content.specs.declared.Refusal.{Refusal}
-use Rattle.content.specs.declared.Refusal.TheVariants.{Torn, UnknownTag, OutOfOrder, TooMany, WrongVersion, WrongEnd}
+use Rattle.content.specs.declared.Refusal.TheVariants.{Torn, OutOfOrder, TooMany, WrongVersion, WrongEnd}
 use Rattle.field.specs.declared.Tag.{Tag}
 use Rattle.field.specs.declared.Tag.TheVariants as tag
 use Rattle.field.specs.declared.State.{State}

@@ -10,7 +10,7 @@ use Rattle.curve.specs.Held.{curve_of, holding, holding_back, steps_in}
 use Rattle.curve.specs.Walks.{value-held}
 use Rattle.field.specs.declared.Refused.{Refused}
 use Rattle.book.specs.Held.{book_of, reading_of, read_refused, read_sound}
-use Rattle.book.specs.Sound.{SoundBook, sound_book}
+use Rattle.book.specs.Sound.{sound_book}
 use Rattle.book.specs.Values.{Asked, curve_named, named_array, named_well, asked_refused, asked_none, asked_far, asked_value}
 use Rattle.book.specs.Reading.{Contents, sound, read_book}
 use Rattle.book.specs.declared.Book.{Book}
@@ -71,5 +71,5 @@ returns c =
     let back : curve_of f ≡ curve_named s so.contents.curves a.curve = ap curve_of is ∙ holding_back (curve_named s so.contents.curves a.curve) well in
     let told : ℕ → Asked = λ v. Ok (record { 0 = v }) in
     ap told
-    (rw c.held.ensures at c.value_at.ensures ∙ value-held (steps_in f) (subst WellFormed (sym back) well) a.tick (omega arith) ∙ ap (λ (g : Curve). value g a.tick) back)
+    (rw c.held.ensures.steps at c.value_at.ensures ∙ value-held (steps_in f) (subst WellFormed (sym back) well) a.tick (omega arith) ∙ ap (λ (g : Curve). value g a.tick) back)
     ∙ sym (asked_value s a.curve a.tick so.contents so.is named (omega arith))

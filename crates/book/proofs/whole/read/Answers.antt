@@ -1,4 +1,4 @@
-use Prim.Native.Nat.{ℕ, ◌<◌}
+use Prim.Native.Nat.{◌<◌}
 use mathlib.Core.Path.{sym, ap, ◌∙◌, subst}
 use native.Mathlib.Omega.{arith}
 use lib.ListN.{length}
@@ -7,7 +7,6 @@ use Rattle.std.specs.Prelude.{Ok}
 use Rattle.curve.specs.Filled.{in_array}
 use Rattle.field.specs.Steps.{max_curves, max_claims}
 use Rattle.book.specs.declared.Book.{Book}
-use Rattle.book.specs.declared.Places.{Places}
 use Rattle.book.specs.Reading.{max_bytes, read_book}
 use Rattle.book.specs.Held.{reading_of, Reads, held_book, reads_start, reads_refused, reads_end, reads_version, reads_curve, reads_claim, place_inside, curve_room, claim-room}
 use Rattle.book.proofs.whole.read.Goals as goal
