@@ -12,7 +12,7 @@
 --                             each step of a tick
 --     near_is, last_is, carried_is, carries     what is read of it, and that it fits (near_fits, last_fits)
 use Prim.Native.Nat.{ℕ, zero, suc, ◌+◌, ◌-◌, ◌*◌, ◌≤◌, ◌<◌, min, max}
-use Rattle.std.specs.Prelude.{◌≡◌, Bool, List, length, get_or, set, drop, leb}
+use Rattle.std.specs.Prelude.{◌≡◌, Bool, List, get_or, leb}
 use Rattle.std.proofs.Math.Path.{sym, ap₂}
 use Rattle.std.proofs.Common.{ap, subst, ◌∙◌, arith, le_refl, leb-true, leb-false}
 use Rattle.std.proofs.Math.Bool.{true, false}

@@ -81,14 +81,7 @@ fn late_from(itself: bool, start: Ticks) -> usize
 // numbers. Only splits that g lists are tried, as a later one is carried over g's periods, and of a curve with itself
 // only the smaller half; and from the tick `settled` on, past the first periods of both, none is, as all is what it was
 // a period of f before, and c more. The tick that the loop stops at is compared too.
-fn first_split(
-    itself: bool,
-    f: Held,
-    g: Held,
-    h: Held,
-    tried: usize,
-    work: &mut Work,
-) -> Compared
+fn first_split(itself: bool, f: Held, g: Held, h: Held, tried: usize, work: &mut Work) -> Compared
     requires { Foldable itself (curve_from (steps_of f)) (curve_from (steps_of g)) work.old tried × Lent (steps_of h) }
     ensures { result ≡ first_of_tried (equals convolution (curve_from (steps_of f.entry)) (curve_from (steps_of g.entry)) (curve_from (steps_of h.entry))) tried }
 {
