@@ -10,7 +10,7 @@
 --     closed_same     any calls that leave a closed book leave what its own calls do
 --     step_refused, step_taken     one call, by its answer
 use Prim.Native.Nat.{ℕ, ◌+◌, ◌≤◌, ◌<◌}
-use Rattle.std.specs.Prelude.{◌≡◌, refl, Bool, not, take, drop, eqb}
+use Rattle.std.specs.Prelude.{◌≡◌, refl, Bool, not, take, drop, eqb, Ok, Err}
 use Rattle.std.proofs.Common.{sym, ◌∙◌, true≢false, arith, zero-add, take_at}
 use Rattle.std.proofs.Math.Path.{ap, subst, subst₂}
 use Rattle.std.proofs.Math.Bool.{true, false}
@@ -26,9 +26,7 @@ use Rattle.numbers.specs.Put.{put, put-nothing, length-put, drop-put, put-put}
 use Rattle.numbers.specs.Back.{Bytes}
 use Rattle.content.specs.declared.Refusal.{Refusal}
 use Rattle.content.specs.declared.Refusal.TheVariants.{OutOfOrder, WrongVersion}
-use Rattle.content.specs.declared.Checked.{Checked}
-use Rattle.content.specs.declared.Checked.TheVariants.{Sound, Refused}
-use Rattle.content.specs.Refusals.{on_sound}
+use Rattle.content.specs.Refusals.{Checked, on_sound}
 use Rattle.content.specs.Sound.{listed_well, WellStated, well_stated}
 use Rattle.field.specs.declared.Tag.TheVariants as tag
 use Rattle.field.specs.Fields.{field_bytes}
@@ -38,21 +36,20 @@ use Rattle.book.specs.Reading.{Contents, sound, read_book}
 use Rattle.book.specs.Listing.{Listing, listed, curve_fields, claim_fields, book_bytes, begun, with_curve, with_claim, WellListed, listing_in, open_begun, open_curve, open_claim, length_book, well_begun, well_curve, well_claim}
 use Rattle.book.specs.RoundTrip.{written_read, read_written, read_well, w8_listing, w8_well}
 use Rattle.writer.specs.declared.Writer.{Writer}
-use Rattle.writer.specs.declared.Called.{Called}
-use Rattle.writer.specs.Writing.{Call, begin, add_curve, add_claim, close, call_tag, call_content, call_field, fresh, order_fault, argument_fault, call_fault, version_of, closes, moved_by, called, Passes, call_taken}
+use Rattle.writer.specs.Writing.{Called, Call, begin, add_curve, add_claim, close, call_tag, call_content, call_field, fresh, order_fault, argument_fault, call_fault, version_of, closes, moved_by, called, Passes, call_taken}
 use Rattle.writer.specs.Sequence.{Desk, entered, entered_on, step, after_calls, opened, reached, text_in, BookSays, AllTaken, calls_for, counted, standing, Stage, untouched, unfinished, finished, Written}
 use Rattle.writer.proofs.Tests.{passes, call_refused}
 
 -- ---- one call
 
 module _ (d : Desk) (call : Call) where
-  step_refused : (x : Refusal) → call_fault d.writer (length d.buffer) call ≡ Refused x → step d call ≡ d
+  step_refused : (x : Refusal) → call_fault d.writer (length d.buffer) call ≡ Err x → step d call ≡ d
   unfolding step
   step_refused x e =
       let r = call_refused call d.writer d.buffer x e in
       λ i. record { writer = (r.0 i).writer; buffer = r.1 i; listing = entered_on (r.0 i).checked d.listing call }
 
-  step_taken : call_fault d.writer (length d.buffer) call ≡ Sound
+  step_taken : call_fault d.writer (length d.buffer) call ≡ Ok tt
       → step d call ≡ record { writer = moved_by call d.writer; buffer = put d.buffer d.writer.state.place (call_field call); listing = entered d.listing call }
   unfolding step
   step_taken e =
@@ -93,7 +90,7 @@ module _ (s : List ℕ) (closed : Bool) (b : Listing) (text : List ℕ) (call : 
   abbrev new : List ℕ
   new = call_field call
 
-  laid_fault : call_fault (standing closed b text) (length (put s 0 text)) call ≡ Sound
+  laid_fault : call_fault (standing closed b text) (length (put s 0 text)) call ≡ Ok tt
   laid_fault = rw (length-laid s text (omega (arith, p.fits))) ((passes (standing closed b text) (length s) call).1 p)
 
   laid_on : step (laid s closed b text) call ≡ laid s (closes call) (entered b call) (text ++ call_field call)
@@ -116,7 +113,7 @@ stage_on : {closed : Bool} {b : Listing} {text : List ℕ} → Stage closed b te
     → Stage (closes call) (entered b call) (text ++ call_field call)
 unfolding in_order full argument_fault call_content book_bytes
 stage_on untouched room (begin v) p =
-    subst (Stage false (begun v)) (open_begun v) (unfinished (well_begun v (not-false _ (on_sound (not (is_version v)) WrongVersion Sound p.right).0)))
+    subst (Stage false (begun v)) (open_begun v) (unfinished (well_begun v (not-false _ (on_sound (not (is_version v)) WrongVersion (Ok tt) p.right).0)))
 stage_on untouched room (add_curve f) p = never p.ordered
 stage_on untouched room (add_claim c) p = never p.ordered
 stage_on untouched room close p = never p.ordered
@@ -138,8 +135,8 @@ laid-step : {s : List ℕ} {d : Desk} → Laid s d → (call : Call) → Laid s 
 laid-step {s} (laid_out {closed} {b} {text} stage room) call = go (call_fault (standing closed b text) (length (put s 0 text)) call) refl
   where
     go : (x : Checked) → call_fault (standing closed b text) (length (put s 0 text)) call ≡ x → Laid s (step (laid s closed b text) call)
-    go (Refused x) e = subst (Laid s) (sym (step_refused (laid s closed b text) call x e)) (laid_out stage room)
-    go Sound e =
+    go (Err x) e = subst (Laid s) (sym (step_refused (laid s closed b text) call x e)) (laid_out stage room)
+    go (Ok u) e =
         let p = (passes (standing closed b text) (length s) call).0 (rw (length-laid s text room) at e) in
         subst (Laid s) (sym (laid_on s closed b text call p)) (laid_out (stage_on stage (length s) call p) (omega (arith, p.fits, length-append text (call_field call))))
 
@@ -226,7 +223,7 @@ module _ (s : List ℕ) (end : Desk) where
   unfolding AllTaken after_calls
   goes_on closed b text call p calls g =
       let here : Desk = laid s closed b text in
-      let answer : (called call here.writer here.buffer).checked ≡ Sound =
+      let answer : (called call here.writer here.buffer).checked ≡ Ok tt =
       ap (λ (x : Called). x.checked) (call_taken call here.writer here.buffer (laid_fault s closed b text call p)).0 in
       let rest : Goes (step here call) calls = subst (λ (d : Desk). Goes d calls) (sym (laid_on s closed b text call p)) g in
       record { taken = (answer, rest.taken); to = rest.to }

@@ -1,28 +1,26 @@
 -- Why a call is refused, and what is left and returned then.
 --
 --     passes           a call is taken exactly when it passes each test
---     call_refused     what a call leaves that is refused; refused_return: and what is returned
-use Rattle.std.specs.Prelude.{ℕ, ◌+◌, ◌≡◌, refl, not, List, ◌↔◌, length, ltb}
-use Rattle.std.proofs.Math.Path.{ap}
-use Rattle.std.proofs.Common.{ltb-false, le-ltb}
+--     call_refused     what a call leaves that is refused
+--     fault_is         the answer that the code comes to, by the field's size; admits: what is known where it is taken
+--     refused_return, taken_return     what is left then
+use Rattle.std.specs.Prelude.{ℕ, ◌+◌, ◌≡◌, refl, Bool, not, List, ◌↔◌, length, ltb, Ok, Err}
+use Rattle.std.proofs.Math.Path.{ap, sym}
+use Rattle.std.proofs.Common.{◌∙◌, ltb-false, le-ltb}
 use Rattle.std.proofs.lemmas.Bool.{not-false}
+use Rattle.numbers.specs.Put.{put}
 use Rattle.content.specs.declared.Refusal.{Refusal}
 use Rattle.content.specs.declared.Refusal.TheVariants.{OutOfOrder, TooMany, NoRoom}
-use Rattle.content.specs.declared.Checked.{Checked}
-use Rattle.content.specs.declared.Checked.TheVariants.{Sound, Refused}
-use Rattle.content.specs.Refusals.{on_sound}
-use Rattle.field.specs.Steps.{in_order, full}
+use Rattle.content.specs.Refusals.{Checked, on_sound}
+use Rattle.field.specs.Steps.{in_order, full, after}
 use Rattle.writer.specs.declared.Writer.{Writer}
-use Rattle.writer.specs.declared.Called.{Called}
-use Rattle.std.proofs.Math.Path.{sym}
-use Rattle.std.proofs.Common.{◌∙◌}
-use Rattle.writer.specs.Writing.{Call, call_tag, call_field, first, order_fault, argument_fault, room_fault, call_fault, called_on, written_on, called, written, Passes}
+use Rattle.writer.specs.Writing.{Call, call_tag, call_field, first, order_fault, argument_fault, room_fault, call_fault, version_of, closes, Called, called_on, written_on, called, written, Passes, call_taken}
 
-first_sound : (x y : Checked) → first x y ≡ Sound → (x ≡ Sound) × (y ≡ Sound)
-first_sound (Refused x) y e = (cc, cc)
-first_sound Sound y e = (refl, e)
+first_sound : (x y : Checked) → first x y ≡ Ok tt → (x ≡ Ok tt) × (y ≡ Ok tt)
+first_sound (Err x) y e = (cc, cc)
+first_sound (Ok u) y e = (refl, e)
 
-pub passes : (w : Writer) (room : ℕ) (call : Call) → (call_fault w room call ≡ Sound) ↔ Passes w room call
+pub passes : (w : Writer) (room : ℕ) (call : Call) → (call_fault w room call ≡ Ok tt) ↔ Passes w room call
 unfolding call_fault order_fault room_fault
 passes w room call = (
   λ e.
@@ -37,12 +35,34 @@ passes w room call = (
 )
 
 module _ (call : Call) (w : Writer) (s : List ℕ) where
-  pub call_refused : (x : Refusal) → call_fault w (length s) call ≡ Refused x → (called call w s ≡ record { checked = Refused x; writer = w }) × (written call w s ≡ s)
+  pub call_refused : (x : Refusal) → call_fault w (length s) call ≡ Err x → (called call w s ≡ record { checked = Err x; writer = w }) × (written call w s ≡ s)
   unfolding called written
   call_refused x e = (ap (λ (y : Checked). called_on y call w) e, ap (λ (y : Checked). written_on y call w s) e)
 
-module _ (call : Call) (w : Writer) (s : List ℕ) {r : Checked} (e : r ≡ call_fault w (length s) call) where
-  pub refused_return : (x : Refusal) → r ≡ Refused x → (◌≡◌ {A = Called} (record { checked = r; writer = w }) (called call w s)) × (s ≡ written call w s)
-  refused_return x is =
-      let told = call_refused call w s x (sym e ∙ is) in
-      (ap (λ (y : Checked). record { checked = y; writer = w }) is ∙ sym told.0, sym told.1)
+  module _ {size : ℕ} {argument r : Checked} (long : length (call_field call) ≡ size) (is : argument ≡ argument_fault w.state.curves call)
+      (e : r ≡ first (order_fault w (call_tag call)) (first argument (room_fault (length s) w.state.place size))) where
+    fault_is : r ≡ call_fault w (length s) call
+    unfolding call_fault
+    fault_is = e ∙ rw (is, long)
+
+    pub admits : r ≡ Ok tt → Passes w (length s) call
+    admits so = (passes w (length s) call).0 (sym fault_is ∙ so)
+
+    pub refused_return : (x : Refusal) → r ≡ Err x
+        → (Err x ≡ (called call w s).checked) × (w ≡ (called call w s).writer) × (s ≡ written call w s)
+    refused_return x so =
+        let told = call_refused x (sym fault_is ∙ so) in
+        (sym (ap (λ (c : Called). c.checked) told.0), sym (ap (λ (c : Called). c.writer) told.0), sym told.1)
+
+    pub taken_return : r ≡ Ok tt → {closed : Bool} {s' : List ℕ} → closed ≡ closes call → s' ≡ put s w.state.place (call_field call)
+        → (Ok tt ≡ (called call w s).checked)
+        × (◌≡◌ {A = Writer} (record { state = after (call_tag call) w.state (version_of call) (w.state.place + size); closed = closed }) (called call w s).writer)
+        × (s' ≡ written call w s)
+    taken_return so shut held =
+        let told = call_taken call w s (sym fault_is ∙ so) in
+        (
+          sym (ap (λ (c : Called). c.checked) told.0),
+          (λ i. record { state = after (call_tag call) w.state (version_of call) (w.state.place + sym long i); closed = shut i })
+          ∙ sym (ap (λ (c : Called). c.writer) told.0),
+          held ∙ sym told.1,
+        )

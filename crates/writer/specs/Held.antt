@@ -6,8 +6,6 @@
 --     version_size, curve_size, claim_size, end_size     how many bytes it has
 --     Filling              the values of a curve, as far as they are written: filling_none, filling_more, filling_all;
 --                          filling_length: as many bytes as before
---     fault_is, moved_by_lem     the tests and the new state, by the field's size; taken_return: what is returned then
---                          (refused_return: proofs/Tests)
 use Prim.Native.Nat.{ℕ, ◌+◌, ◌*◌, ◌≤◌, ◌<◌}
 use Rattle.std.specs.Prelude.{◌≡◌, Bool, true, false, take, get_or, leb}
 use Rattle.std.proofs.Math.Path.{refl, sym, ap}
@@ -18,18 +16,14 @@ use Rattle.minplus.specs.Curve.{Curve}
 use Rattle.numbers.specs.Lists.{flat_more}
 use Rattle.numbers.specs.Put.{put, put_whole, bytes_of, length-put, length-bytes}
 use Rattle.numbers.specs.Written.{Wrote, wrote_nothing, wrote_number, wrote_length, wrote_on}
-use Rattle.content.specs.declared.Checked.{Checked}
-use Rattle.content.specs.declared.Checked.TheVariants.{Sound}
-use Rattle.content.specs.Layout.{values_bytes, curve_bytes, Statement, third_width, claim_bytes}
+use Rattle.content.specs.declared.Statement.{Statement}
+use Rattle.content.specs.Layout.{values_bytes, curve_bytes, third_width, claim_bytes}
 use Rattle.content.specs.Back.{length_values, length_curve, length-claim}
 use Rattle.field.specs.declared.Tag.{Tag}
 use Rattle.field.specs.declared.Tag.TheVariants as tag
 use Rattle.field.specs.Fields.{tag_number, field_bytes}
-use Rattle.field.specs.Steps.{after}
 use Rattle.field.specs.Back.{length_field}
-use Rattle.writer.specs.declared.Writer.{Writer}
-use Rattle.writer.specs.declared.Called.{Called}
-use Rattle.writer.specs.Writing.{Call, begin, add_curve, add_claim, close, call_tag, call_content, call_field, first, order_fault, argument_fault, room_fault, call_fault, version_of, closes, moved_by, called, written, call_taken}
+use Rattle.writer.specs.Writing.{begin, add_curve, add_claim, close, call_content, call_field}
 
 abbrev pub head_bytes : Tag → ℕ → List ℕ
 head_bytes t n = bytes_of 1 (tag_number t) ++ bytes_of 2 n
@@ -173,22 +167,3 @@ module _ {s : List ℕ} {at : ℕ} {values : List ℕ} {n : ℕ} {s' : List ℕ}
 
   pub filling_all : length values ≤ n → s' ≡ put s at (values_bytes values)
   filling_all all = f.so_far.held ∙ ap (λ (l : List ℕ). put s at (values_bytes l)) (take_all n values all)
-
--- ---- what a call returns
-
-module _ (call : Call) (w : Writer) where
-  pub fault_is : (room size : ℕ) {a : Checked} → length (call_field call) ≡ size → a ≡ argument_fault w.state.curves call
-      → first (order_fault w (call_tag call)) (first a (room_fault room w.state.place size)) ≡ call_fault w room call
-  unfolding call_fault
-  fault_is room size long e = rw (e, long)
-
-  pub moved_by_lem : (size : ℕ) → length (call_field call) ≡ size
-      → ◌≡◌ {A = Writer} (record { state = after (call_tag call) w.state (version_of call) (w.state.place + size); closed = closes call }) (moved_by call w)
-  moved_by_lem size long = rw long
-
-  module _ (s : List ℕ) {r : Checked} (e : r ≡ call_fault w (length s) call) where
-    pub taken_return : {w' : Writer} {s' : List ℕ} → r ≡ Sound → w' ≡ moved_by call w → s' ≡ put s w.state.place (call_field call)
-        → (◌≡◌ {A = Called} (record { checked = r; writer = w' }) (called call w s)) × (s' ≡ written call w s)
-    taken_return is to now-so =
-        let told = call_taken call w s (sym e ∙ is) in
-        (ap₂ (λ (y : Checked) (z : Writer). record { checked = y; writer = z }) is to ∙ sym told.0, now-so ∙ sym told.1)

@@ -12,14 +12,13 @@
 --     Written          what holds after any calls whatever, of a writer that stands after a text (standing, counted)
 --     w8_stands, w8_short     document 01's book, computed, with room and with one byte too few
 use Prim.Native.Nat.{ℕ, ◌≤◌}
-use Rattle.std.specs.Prelude.{◌≡◌, refl, Bool, take, drop, replicate}
+use Rattle.std.specs.Prelude.{◌≡◌, refl, Bool, take, drop, replicate, Ok, Err}
 use Rattle.std.proofs.Math.Bool.{true, false}
 use mathlib.Core.List.{List, [], ◌∷◌, ◌++◌, map}
 use Rattle.std.proofs.Math.ListN.{length}
 use Rattle.minplus.specs.Claim.{kind_by}
 use Rattle.numbers.specs.Put.{bytes_of}
-use Rattle.content.specs.declared.Checked.{Checked}
-use Rattle.content.specs.declared.Checked.TheVariants.{Sound, Refused}
+use Rattle.content.specs.Refusals.{Checked}
 use Rattle.field.specs.declared.State.{State}
 use Rattle.book.specs.Reading.{Contents, sound, read_book}
 use Rattle.book.specs.Ground.{w8}
@@ -42,8 +41,8 @@ entered b close = b
 
 -- a call that is refused says nothing
 abbrev pub entered_on : Checked → Listing → Call → Listing
-entered_on (Refused x) b call = b
-entered_on Sound b call = entered b call
+entered_on (Err x) b call = b
+entered_on (Ok u) b call = entered b call
 
 unfoldable pub step : Desk → Call → Desk
 unfolding called written
@@ -74,7 +73,7 @@ BookSays text b = (c : Contents) × (read_book text ≡ sound c) × (listing_in 
 unfoldable pub AllTaken : Desk → List Call → Type 0
 unfolding step
 AllTaken d [] = Unit {0}
-AllTaken d (call ∷ calls) = ((called call d.writer d.buffer).checked ≡ Sound) × AllTaken (step d call) calls
+AllTaken d (call ∷ calls) = ((called call d.writer d.buffer).checked ≡ Ok tt) × AllTaken (step d call) calls
 
 unfoldable pub calls_for : Listing → List Call
 calls_for b = begin b.version ∷ (map add_curve b.curves ++ (map add_claim b.claims ++ (close ∷ [])))

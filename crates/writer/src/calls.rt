@@ -1,139 +1,70 @@
 // The four calls. Whatever is passed, each has its answer; a refused call leaves writer and bytes as they were.
 ghost use Rattle.std.specs.Prelude.{◌≡◌};
+ghost use Rattle.content.specs.Layout.{listed_of};
 ghost use Rattle.writer.specs.Writing.{begin, add_curve, add_claim, close, called, written};
 
-use crate::fields::{admitted, put_claim, put_curve, put_end, put_version};
-use crate::{Called, Writer};
-use content::Checked;
+use crate::Writer;
+use crate::fields::{put_claim, put_curve, put_end, put_version};
 use content::claims::{statement_fault, third_width};
 use content::curves::listed_fault;
-use field::{State, Tag};
+use content::{Listed, Refusal, Statement};
+use field::Tag;
 
 // The version that is written.
 const VERSION: u8 = 1;
 
-pub fn begin(writer: Writer, out: &mut [u8]) -> Called
-    ensures value { result ≡ called (begin 1) writer out.old }
-    ensures out_after { out.new ≡ written (begin 1) writer out.old }
-{
-    let state = writer.state;
-    let place = state.place;
-    let checked = admitted(writer, Tag::Version, Checked::Sound, out.len(), 4);
-    if let Checked::Refused(_) = checked {
-        return Called { checked, writer }; // not begun
+impl Writer {
+    pub fn begin(&mut self, out: &mut [u8]) -> Result<(), Refusal>
+        ensures value { result ≡ (called (begin 1) self.old out.old).checked }
+        ensures writer_after { self.new ≡ (called (begin 1) self.old out.old).writer }
+        ensures out_after { out.new ≡ written (begin 1) self.old out.old }
+    {
+        let size = 4;
+        self.admitted(Tag::Version, Ok(()), out.len(), size)?;
+        put_version(out, self.state.place, VERSION);
+        self.state.version = VERSION;
+        self.state.place += size;
+        Ok(())
     }
-    put_version(out, place, VERSION);
-    let next = place + 4;
-    Called {
-        checked,
-        writer: Writer {
-            state: State {
-                version: VERSION,
-                curves: state.curves,
-                claims: state.claims,
-                place: next,
-            },
-            closed: false,
-        },
-    }
-}
 
-// A curve of numbers of any size, with any list.
-pub fn add_curve(
-    writer: Writer,
-    out: &mut [u8],
-    rank: u64,
-    period: u64,
-    increment: u64,
-    values: &[u32],
-) -> Called
-    ensures value { result ≡ called (add_curve (record { rank = rank; period = period; increment = increment; listed = values.now })) writer out.old }
-    ensures out_after { out.new ≡ written (add_curve (record { rank = rank; period = period; increment = increment; listed = values.now })) writer out.old }
-{
-    let state = writer.state;
-    let place = state.place;
-    let size = 11 + 4 * values.len();
-    let curve = listed_fault(rank, period, increment, values);
-    let checked = admitted(writer, Tag::Curve, curve, out.len(), size);
-    if let Checked::Refused(_) = checked {
-        return Called { checked, writer }; // the curve is not counted
+    // A curve of numbers of any size, with any list.
+    pub fn add_curve(&mut self, out: &mut [u8], curve: Listed) -> Result<(), Refusal>
+        ensures value { result ≡ (called (add_curve (listed_of curve.entry)) self.old out.old).checked }
+        ensures writer_after { self.new ≡ (called (add_curve (listed_of curve.entry)) self.old out.old).writer }
+        ensures out_after { out.new ≡ written (add_curve (listed_of curve.entry)) self.old out.old }
+    {
+        let size = 11 + 4 * curve.values.len();
+        self.admitted(Tag::Curve, listed_fault(curve), out.len(), size)?;
+        put_curve(out, self.state.place, curve);
+        self.state.curves += 1;
+        self.state.place += size;
+        Ok(())
     }
-    put_curve(out, place, rank, period, increment, values);
-    let curves = state.curves + 1;
-    let next = place + size;
-    Called {
-        checked,
-        writer: Writer {
-            state: State {
-                version: state.version,
-                curves,
-                claims: state.claims,
-                place: next,
-            },
-            closed: false,
-        },
-    }
-}
 
-// A claim of numbers of any size. The third is h for kinds 1 to 3 and X for 4 to 7.
-pub fn add_claim(
-    writer: Writer,
-    out: &mut [u8],
-    kind: u64,
-    left: u64,
-    right: u64,
-    third: u64,
-) -> Called
-    ensures value { result ≡ called (add_claim (record { kind = kind; left = left; right = right; third = third })) writer out.old }
-    ensures out_after { out.new ≡ written (add_claim (record { kind = kind; left = left; right = right; third = third })) writer out.old }
-{
-    let state = writer.state;
-    let place = state.place;
-    let size = 6 + third_width(kind);
-    let claim = statement_fault(kind, left, right, third, state.curves);
-    let checked = admitted(writer, Tag::Claim, claim, out.len(), size);
-    if let Checked::Refused(_) = checked {
-        return Called { checked, writer }; // the claim is not counted
+    // A claim of numbers of any size. The third is h for kinds 1 to 3 and X for 4 to 7.
+    pub fn add_claim(&mut self, out: &mut [u8], claim: Statement) -> Result<(), Refusal>
+        ensures value { result ≡ (called (add_claim claim) self.old out.old).checked }
+        ensures writer_after { self.new ≡ (called (add_claim claim) self.old out.old).writer }
+        ensures out_after { out.new ≡ written (add_claim claim) self.old out.old }
+    {
+        let size = 6 + third_width(claim.kind);
+        self.admitted(Tag::Claim, statement_fault(claim, self.state.curves), out.len(), size)?;
+        put_claim(out, self.state.place, claim);
+        self.state.claims += 1;
+        self.state.place += size;
+        Ok(())
     }
-    put_claim(out, place, kind, left, right, third);
-    let claims = state.claims + 1;
-    let next = place + size;
-    Called {
-        checked,
-        writer: Writer {
-            state: State {
-                version: state.version,
-                curves: state.curves,
-                claims,
-                place: next,
-            },
-            closed: false,
-        },
-    }
-}
 
-pub fn close(writer: Writer, out: &mut [u8]) -> Called
-    ensures value { result ≡ called close writer out.old }
-    ensures out_after { out.new ≡ written close writer out.old }
-{
-    let state = writer.state;
-    let place = state.place;
-    let checked = admitted(writer, Tag::End, Checked::Sound, out.len(), 3);
-    if let Checked::Refused(_) = checked {
-        return Called { checked, writer }; // not closed
-    }
-    put_end(out, place);
-    let next = place + 3;
-    Called {
-        checked,
-        writer: Writer {
-            state: State {
-                version: state.version,
-                curves: state.curves,
-                claims: state.claims,
-                place: next,
-            },
-            closed: true,
-        },
+    pub fn close(&mut self, out: &mut [u8]) -> Result<(), Refusal>
+        ensures value { result ≡ (called close self.old out.old).checked }
+        ensures writer_after { self.new ≡ (called close self.old out.old).writer }
+        ensures out_after { out.new ≡ written close self.old out.old }
+    {
+        let size = 3;
+        self.admitted(Tag::End, Ok(()), out.len(), size)?;
+        put_end(out, self.state.place);
+        self.state.place += size;
+        self.closed = true;
+        Ok(())
     }
 }

@@ -4,7 +4,6 @@
 ghost use Rattle.std.specs.Prelude.{◌≡◌};
 ghost use Rattle.writer.specs.Writing.{fresh};
 
-use content::Checked;
 use field::State;
 
 pub mod calls;
@@ -33,11 +32,4 @@ impl Writer {
             closed: false,
         }
     }
-}
-
-// A call's answer: taken (Sound) or refused, and where the writer stands then. A refused call leaves it where it was.
-#[derive(Clone, Copy)]
-pub struct Called {
-    pub checked: Checked,
-    pub writer: Writer,
 }

@@ -1,20 +1,18 @@
 -- The laws of specs/Calls.antt.
-use Rattle.std.specs.Prelude.{ℕ, ◌+◌, ◌*◌, ◌%◌, ◌^◌, ◌≤◌, ◌<◌, ◌≡◌, refl, Bool, true, length, replicate}
+use Rattle.std.specs.Prelude.{ℕ, ◌+◌, ◌*◌, ◌%◌, ◌^◌, ◌≤◌, ◌<◌, ◌≡◌, refl, Bool, true, length, replicate, Ok, Err}
 use Rattle.std.proofs.Common.{sym, ◌∙◌, arith}
 use Rattle.std.proofs.Math.Path.{ap, ap₂, subst}
 use mathlib.Core.List.{List, [], ◌∷◌}
 use Rattle.std.proofs.Math.ListN.{take}
 use Rattle.minplus.specs.Claim.{kind_by}
 use Rattle.numbers.specs.Put.{bytes_of}
-use Rattle.content.specs.declared.Checked.{Checked}
-use Rattle.content.specs.declared.Checked.TheVariants.{Sound, Refused}
+use Rattle.content.specs.Refusals.{Checked}
 use Rattle.field.specs.Steps.{max_curves, max_claims}
 use Rattle.field.specs.Back.{version_fits}
 use Rattle.book.specs.Listing.{Listing}
 use Rattle.book.specs.RoundTrip.{w8_listing}
 use Rattle.writer.specs.declared.Writer.{Writer}
-use Rattle.writer.specs.declared.Called.{Called}
-use Rattle.writer.specs.Writing.{Call, call_fault, called, written, call_taken}
+use Rattle.writer.specs.Writing.{Called, Call, call_fault, called, written, call_taken}
 use Rattle.writer.proofs.Tests.{call_refused}
 use Rattle.writer.specs.Sequence.{Desk, step, after_calls, opened, reached, BookSays, Stage, untouched, unfinished, finished, Written, calls_for}
 use Rattle.writer.proofs.Sequence.{any_calls, closed_sound}
@@ -45,14 +43,14 @@ answer_back : (n : ℕ) (call : Call) (s : List ℕ) → Kept (called call (writ
 unfolding answered
 answer_back n call s kept = go (call_fault (writer_of n) (length s) call) refl
   where
-    back : (c : Called) → c.checked ≡ Sound → Kept c.writer → writer_of (answered_on c.checked n c.writer).state ≡ c.writer
+    back : (c : Called) → c.checked ≡ Ok tt → Kept c.writer → writer_of (answered_on c.checked n c.writer).state ≡ c.writer
     back c is kept = ap (λ (y : Checked). writer_of (answered_on y n c.writer).state) is ∙ state_back c.writer kept
 
     go : (x : Checked) → call_fault (writer_of n) (length s) call ≡ x → writer_of (answered n (called call (writer_of n) s)).state ≡ (called call (writer_of n) s).writer
-    go (Refused x) e =
+    go (Err x) e =
         let told = (call_refused call (writer_of n) s x e).0 in
         ap (λ (c : Called). writer_of (answered n c).state) told ∙ sym (ap (λ (c : Called). c.writer) told)
-    go Sound e = back (called call (writer_of n) s) (ap (λ (c : Called). c.checked) (call_taken call (writer_of n) s e).0) kept
+    go (Ok u) e = back (called call (writer_of n) s) (ap (λ (c : Called). c.checked) (call_taken call (writer_of n) s e).0) kept
 
 module _ (s : List ℕ) where
   follows : (d : Desk) → ((calls : List Call) → Written s (after_calls d calls)) → (h : Held) → writer_of h.state ≡ d.writer → h.buffer ≡ d.buffer → (calls : List Call)

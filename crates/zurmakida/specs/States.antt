@@ -7,21 +7,18 @@
 --                    stays (answered_on)
 --     Kept           a writer whose parts have room in the number; state_back: it is the writer of its number
 --     fresh_back     0 is the state before the first call
-use Rattle.std.specs.Prelude.{ℕ, ◌+◌, ◌*◌, ◌/◌, ◌%◌, ◌^◌, ◌≤◌, ◌<◌, ◌≡◌, Bool, true, ◌||◌}
+use Rattle.std.specs.Prelude.{ℕ, ◌+◌, ◌*◌, ◌/◌, ◌%◌, ◌^◌, ◌≤◌, ◌<◌, ◌≡◌, Bool, true, ◌||◌, Ok, Err}
 use Rattle.std.proofs.Math.Path.{refl}
 use Rattle.std.proofs.Common.{sym, ap, ◌∙◌}
 use Rattle.std.proofs.Math.Bool.{false}
 use native.Mathlib.Omega.{arith}
 use Rattle.std.proofs.Math.Dec.{leb, ltb}
 use borrow.Author.Tests.{le-leb, lt-leb, le-ltb}
-use Rattle.content.specs.declared.Checked.{Checked}
-use Rattle.content.specs.declared.Checked.TheVariants.{Sound, Refused}
-use Rattle.content.specs.Refusals.{number_of}
+use Rattle.content.specs.Refusals.{Checked, number_of}
 use Rattle.field.specs.declared.State.{State}
 use Rattle.book.specs.Reading.{max_bytes}
 use Rattle.writer.specs.declared.Writer.{Writer}
-use Rattle.writer.specs.declared.Called.{Called}
-use Rattle.writer.specs.Writing.{fresh}
+use Rattle.writer.specs.Writing.{fresh, Called}
 use Rattle.zurmakida.specs.declared.BookCall.{BookCall}
 
 abbrev closed_bit : Bool → ℕ
@@ -46,8 +43,8 @@ writer_of n = record {
 }
 
 abbrev pub answered_on : Checked → ℕ → Writer → BookCall
-answered_on (Refused x) n w = record { refusal = number_of x; state = n }
-answered_on Sound n w = record { refusal = 0; state = state_of w }
+answered_on (Err x) n w = record { refusal = number_of x; state = n }
+answered_on (Ok u) n w = record { refusal = 0; state = state_of w }
 
 unfoldable pub answered : ℕ → Called → BookCall
 unfolding state_of number_of

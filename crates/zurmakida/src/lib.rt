@@ -9,7 +9,7 @@ ghost use Rattle.writer.specs.Writing.{begin, add_curve, add_claim, close, calle
 ghost use Rattle.zurmakida.specs.States.{writer_of, answered};
 
 use book::{CurveValue, values};
-use writer::calls;
+use content::{Listed, Statement};
 
 mod states;
 
@@ -40,9 +40,12 @@ pub fn book_begin(state: u64, book: &mut [u8]) -> BookCall
     ensures value { result ≡ answered state (called (begin 1) (writer_of state) book.old) }
     ensures book_after { book.new ≡ written (begin 1) (writer_of state) book.old }
 {
-    answered(state, calls::begin(writer_of(state), book))
+    let mut writer = writer_of(state);
+    let answer = writer.begin(book);
+    answered(state, answer, writer)
 }
 
+// C hands over the numbers one by one, here and in the next.
 pub fn book_add_curve(
     state: u64,
     book: &mut [u8],
@@ -54,10 +57,15 @@ pub fn book_add_curve(
     ensures value { result ≡ answered state (called (add_curve (record { rank = rank; period = period; increment = increment; listed = values.now })) (writer_of state) book.old) }
     ensures book_after { book.new ≡ written (add_curve (record { rank = rank; period = period; increment = increment; listed = values.now })) (writer_of state) book.old }
 {
-    answered(
-        state,
-        calls::add_curve(writer_of(state), book, rank, period, increment, values),
-    )
+    let mut writer = writer_of(state);
+    let curve = Listed {
+        rank,
+        period,
+        increment,
+        values,
+    };
+    let answer = writer.add_curve(book, curve);
+    answered(state, answer, writer)
 }
 
 pub fn book_add_claim(
@@ -71,15 +79,22 @@ pub fn book_add_claim(
     ensures value { result ≡ answered state (called (add_claim (record { kind = kind; left = left; right = right; third = third })) (writer_of state) book.old) }
     ensures book_after { book.new ≡ written (add_claim (record { kind = kind; left = left; right = right; third = third })) (writer_of state) book.old }
 {
-    answered(
-        state,
-        calls::add_claim(writer_of(state), book, kind, left, right, third),
-    )
+    let mut writer = writer_of(state);
+    let claim = Statement {
+        kind,
+        left,
+        right,
+        third,
+    };
+    let answer = writer.add_claim(book, claim);
+    answered(state, answer, writer)
 }
 
 pub fn book_close(state: u64, book: &mut [u8]) -> BookCall
     ensures value { result ≡ answered state (called close (writer_of state) book.old) }
     ensures book_after { book.new ≡ written close (writer_of state) book.old }
 {
-    answered(state, calls::close(writer_of(state), book))
+    let mut writer = writer_of(state);
+    let answer = writer.close(book);
+    answered(state, answer, writer)
 }

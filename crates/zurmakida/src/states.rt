@@ -1,12 +1,13 @@
-// A writer's state as one number: bytes written (16 bits), claims (16), curves (8), version (7), closed (1).
+// A writer's state as one number, since C keeps it between calls: bytes written (16 bits), claims (16), curves (8),
+// version (7), closed (1).
 ghost use Rattle.std.specs.Prelude.{◌≡◌};
 ghost use Rattle.zurmakida.specs.States.{takes_nothing, state_of, writer_of, answered};
 
 use crate::BookCall;
 use book::Book;
-use content::Checked;
+use content::Refusal;
 use field::State;
-use writer::{Called, Writer};
+use writer::Writer;
 
 // What one claim, one curve, one version and being closed count for in it.
 const CLAIM: u64 = 65_536;
@@ -21,10 +22,7 @@ const CLOSED: u64 = 140_737_488_355_328;
 fn takes_nothing(state: u64) -> bool
     ensures { result ≡ takes_nothing state }
 {
-    if Book::MAX_BYTES < (state % CLAIM) as usize {
-        return true;
-    }
-    CLOSED <= state
+    Book::MAX_BYTES < (state % CLAIM) as usize || CLOSED <= state
 }
 
 pub(crate) fn writer_of(state: u64) -> Writer
@@ -54,18 +52,17 @@ fn state_of(writer: Writer) -> u64
 }
 
 // A refused call gives the state back as it came.
-pub(crate) fn answered(state: u64, called: Called) -> BookCall
-    ensures { result ≡ answered state called }
+pub(crate) fn answered(state: u64, answer: Result<(), Refusal>, writer: Writer) -> BookCall
+    ensures { result ≡ answered state (record { checked = answer; writer = writer }) }
 {
-    let checked = called.checked;
-    match checked {
-        Checked::Refused(refusal) => BookCall {
+    match answer {
+        Err(refusal) => BookCall {
             refusal: refusal.number() as u64,
             state,
         },
-        Checked::Sound => BookCall {
+        Ok(()) => BookCall {
             refusal: 0,
-            state: state_of(called.writer),
+            state: state_of(writer),
         },
     }
 }

@@ -1,10 +1,10 @@
 use Rattle.zurmakida.specs.States.{answered}
 use Rattle.zurmakida.proofs.states.answered.Goals as goal
 
-pub returns-in-Refused : goal.returns-in-Refused
+pub returns-in-Err : goal.returns-in-Err
 unfolding answered
-returns-in-Refused c = rw (c.in-Refused.is, c.number.ensures)
+returns-in-Err c = rw (c.in-Err.is, c.number.ensures)
 
-pub returns-in-Sound : goal.returns-in-Sound
+pub returns-in-Ok : goal.returns-in-Ok
 unfolding answered
-returns-in-Sound c = rw (c.in-Sound.is, c.state_of.ensures)
+returns-in-Ok c = rw (c.in-Ok.is, c.state_of.ensures)

@@ -8,6 +8,6 @@ pub returns-then-state-gt-MAX_BYTES : goal.returns-then-state-gt-MAX_BYTES
 unfolding takes_nothing
 returns-then-state-gt-MAX_BYTES c = rw (lt-ltb max_bytes (c.args.state % 2 ^ 16) c.if-state-gt-MAX_BYTES.true)
 
-pub returns : goal.returns
+pub returns-else-state-gt-MAX_BYTES : goal.returns-else-state-gt-MAX_BYTES
 unfolding takes_nothing
-returns c = rw (le-ltb max_bytes (c.args.state % 2 ^ 16) c.if-state-gt-MAX_BYTES.false)
+returns-else-state-gt-MAX_BYTES c = rw (le-ltb max_bytes (c.args.state % 2 ^ 16) c.if-state-gt-MAX_BYTES.false)
