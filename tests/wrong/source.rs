@@ -1,6 +1,7 @@
 //! The functions of a crate as `rt fmt` lays them out, and the text of a file with some of them changed.
 
 use crate::list::Wrong;
+use std::collections::HashMap;
 use std::fs;
 use std::ops::Range;
 use std::path::{Path, PathBuf};
@@ -50,11 +51,24 @@ fn type_of(line: &str) -> Option<(String, bool)> {
     }
 }
 
-fn in_file(file: &Path, text: &str, found: &mut Vec<Function>) -> Result<(), String> {
-    let module = match file.file_stem().and_then(|s| s.to_str()) {
+fn module_of(file: &Path) -> String {
+    match file.file_stem().and_then(|s| s.to_str()) {
         Some("lib" | "main") | None => String::new(),
         Some(stem) => format!("{stem}::"),
-    };
+    }
+}
+
+/// The struct or enum that a line begins.
+fn declared(line: &str) -> Option<&str> {
+    let line = line.strip_prefix("pub(crate) ").or(line.strip_prefix("pub ")).unwrap_or(line);
+    let rest = line.strip_prefix("struct ").or(line.strip_prefix("enum "))?;
+    rest.split(|c: char| !c.is_alphanumeric()).next()
+}
+
+/// `homes` has the modules in which the crate's types are declared: the prover names a type's function there, wherever
+/// its `impl` stands.
+fn in_file(file: &Path, text: &str, homes: &HashMap<String, String>, found: &mut Vec<Function>) -> Result<(), String> {
+    let module = module_of(file);
     let mut of_type = String::new();
     let mut of_trait = false;
     // a trait's function is promised by the ghost members above it, as `ghost from_gives = { .. }`
@@ -67,7 +81,8 @@ fn in_file(file: &Path, text: &str, found: &mut Vec<Function>) -> Result<(), Str
     }
     for (k, (_, line)) in lines.iter().enumerate() {
         if let Some((name, one_of_trait)) = type_of(line) {
-            of_type = format!("{name}::");
+            let home = if one_of_trait { None } else { homes.get(&name) };
+            of_type = format!("{}{name}::", home.unwrap_or(&module));
             (of_trait, given) = (one_of_trait, false);
         } else if *line == "}" {
             of_type.clear();
@@ -76,7 +91,7 @@ fn in_file(file: &Path, text: &str, found: &mut Vec<Function>) -> Result<(), Str
         given |= of_trait && line.trim_start().starts_with("ghost ") && !line.trim_start().starts_with("ghost use ");
         let indent = &line[..line.len() - line.trim_start().len()];
         let Some((public, name)) = named(line.trim_start()) else { continue };
-        let path = format!("{module}{of_type}{name}");
+        let path = if of_type.is_empty() { format!("{module}{name}") } else { format!("{of_type}{name}") };
         let lost = || format!("{path}: no body in the layout of rt fmt");
         let alone = format!("{indent}{{");
         let opens = |&(_, l): &&(usize, &str)| *l == alone || (l.ends_with(" {") && (*l == *line || l.starts_with(&format!("{indent})"))));
@@ -96,11 +111,19 @@ pub fn at<'a>(functions: &'a [Function], place: &str, line: usize) -> Option<&'a
 
 pub fn functions(dir: &Path) -> Result<Vec<Function>, String> {
     let said = |e: std::io::Error| format!("its source can't be read: {e}");
-    let mut found = Vec::new();
+    let mut files = Vec::new();
     for entry in fs::read_dir(dir.join("src")).map_err(said)? {
         let file = entry.map_err(said)?.path();
         let text = fs::read_to_string(&file).map_err(said)?;
-        in_file(&file, &text, &mut found)?;
+        files.push((file, text));
+    }
+    let mut homes = HashMap::new();
+    for (file, text) in &files {
+        homes.extend(text.lines().filter_map(declared).map(|name| (name.to_string(), module_of(file))));
+    }
+    let mut found = Vec::new();
+    for (file, text) in &files {
+        in_file(file, text, &homes, &mut found)?;
     }
     Ok(found)
 }
