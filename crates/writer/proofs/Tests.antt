@@ -59,10 +59,9 @@ module _ (call : Call) (w : Writer) (s : List ℕ) where
         × (◌≡◌ {A = Writer} (record { state = after (call_tag call) w.state (version_of call) (w.state.place + size); closed = closed }) (called call w s).writer)
         × (s' ≡ written call w s)
     taken_return so shut held =
-        let told = call_taken call w s (sym fault_is ∙ so) in
-        (
+        let told = call_taken call w s (sym fault_is ∙ so) in (
           sym (ap (λ (c : Called). c.checked) told.0),
           (λ i. record { state = after (call_tag call) w.state (version_of call) (w.state.place + sym long i); closed = shut i })
-          ∙ sym (ap (λ (c : Called). c.writer) told.0),
+              ∙ sym (ap (λ (c : Called). c.writer) told.0),
           held ∙ sym told.1,
         )

@@ -34,21 +34,23 @@ impl Writer {
         ensures out_after { out.new ≡ written (add_curve (listed_of curve.entry)) self.old out.old }
     {
         let size = 11 + 4 * curve.values.len();
-        self.admitted(Tag::Curve, listed_fault(curve), out.len(), size)?;
+        let fault = listed_fault(curve);
+        self.admitted(Tag::Curve, fault, out.len(), size)?;
         put_curve(out, self.state.place, curve);
         self.state.curves += 1;
         self.state.place += size;
         Ok(())
     }
 
-    // A claim of numbers of any size. The third is h for kinds 1 to 3 and X for 4 to 7.
+    // A claim of numbers of any size.
     pub fn add_claim(&mut self, out: &mut [u8], claim: Statement) -> Result<(), Refusal>
         ensures value { result ≡ (called (add_claim claim) self.old out.old).checked }
         ensures writer_after { self.new ≡ (called (add_claim claim) self.old out.old).writer }
         ensures out_after { out.new ≡ written (add_claim claim) self.old out.old }
     {
         let size = 6 + third_width(claim.kind);
-        self.admitted(Tag::Claim, statement_fault(claim, self.state.curves), out.len(), size)?;
+        let fault = statement_fault(claim, self.state.curves);
+        self.admitted(Tag::Claim, fault, out.len(), size)?;
         put_claim(out, self.state.place, claim);
         self.state.claims += 1;
         self.state.place += size;

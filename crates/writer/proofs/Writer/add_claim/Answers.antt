@@ -19,7 +19,7 @@ unfolding argument_fault
 returns-in_err-admitted c =
     let call = add_claim c.args.claim in
     let size : length (call_field call) ≡ 6 + c.third_width-size.result = rw c.third_width-size.ensures (claim_size _) in
-    let told = refused_return call c.args.self.now c.args.out.now size c.statement_fault.ensures c.admitted.ensures _ c.in_err-admitted.was in
+    let told = refused_return call c.args.self.now c.args.out.now size c.statement_fault-fault.ensures c.admitted.ensures _ c.in_err-admitted.was in
     let p = err_from_is_err_and c.from_residual.result c.from_residual.ensures.1 in
     record { value = rw (p.1, p.2) told.0; writer_after = told.1; out_after = told.2 }
 
@@ -28,14 +28,14 @@ unfolding argument_fault
 put_claim-requires c =
     let call = add_claim c.args.claim in
     let size : length (call_field call) ≡ 6 + c.third_width-size.result = rw c.third_width-size.ensures (claim_size _) in
-    (admits call c.args.self.now c.args.out.now size c.statement_fault.ensures c.admitted.ensures c.in_ok-admitted.was).fits
+    (admits call c.args.self.now c.args.out.now size c.statement_fault-fault.ensures c.admitted.ensures c.in_ok-admitted.was).fits
 
 pub overflow_add-self : goal.overflow_add-self
 unfolding full argument_fault
 overflow_add-self c =
     let call = add_claim c.args.claim in
     let size : length (call_field call) ≡ 6 + c.third_width-size.result = rw c.third_width-size.ensures (claim_size _) in
-    let p = admits call c.args.self.now c.args.out.now size c.statement_fault.ensures c.admitted.ensures c.in_ok-admitted.was in
+    let p = admits call c.args.self.now c.args.out.now size c.statement_fault-fault.ensures c.admitted.ensures c.in_ok-admitted.was in
     omega (arith, leb-false max_claims c.args.self.now.state.claims p.few)
 
 pub overflow_add-self-2 : goal.overflow_add-self-2
@@ -43,7 +43,7 @@ unfolding argument_fault
 overflow_add-self-2 c =
     let call = add_claim c.args.claim in
     let size : length (call_field call) ≡ 6 + c.third_width-size.result = rw c.third_width-size.ensures (claim_size _) in
-    let p = admits call c.args.self.now c.args.out.now size c.statement_fault.ensures c.admitted.ensures c.in_ok-admitted.was in
+    let p = admits call c.args.self.now c.args.out.now size c.statement_fault-fault.ensures c.admitted.ensures c.in_ok-admitted.was in
     omega (arith, size, p.fits)
 
 pub returns : goal.returns
@@ -51,6 +51,6 @@ unfolding after argument_fault
 returns c =
     let call = add_claim c.args.claim in
     let size : length (call_field call) ≡ 6 + c.third_width-size.result = rw c.third_width-size.ensures (claim_size _) in
-    let p = admits call c.args.self.now c.args.out.now size c.statement_fault.ensures c.admitted.ensures c.in_ok-admitted.was in
-    let told = taken_return call c.args.self.now c.args.out.now size c.statement_fault.ensures c.admitted.ensures c.in_ok-admitted.was p.still_open c.put_claim.ensures in
+    let p = admits call c.args.self.now c.args.out.now size c.statement_fault-fault.ensures c.admitted.ensures c.in_ok-admitted.was in
+    let told = taken_return call c.args.self.now c.args.out.now size c.statement_fault-fault.ensures c.admitted.ensures c.in_ok-admitted.was p.still_open c.put_claim.ensures in
     record { value = told.0; writer_after = told.1; out_after = told.2 }

@@ -6,8 +6,8 @@ pub returns-then-self : goal.returns-then-self
 unfolding order_fault
 returns-then-self c =
     elim c.then-self.branch [
-      then-self-via-then-self w ↦ rw w.if-self.true
-    | then-self-via-else-self+then-not-in_order w ↦ rw (w.if-self.false, ← w.in_order.ensures, w.if-not-in_order.true)
+      | then-self-via-then-self w ↦ rw w.if-self.true
+      | then-self-via-else-self+then-not-in_order w ↦ rw (w.if-self.false, ← w.in_order.ensures, w.if-not-in_order.true)
     ]
 
 pub returns-then-full : goal.returns-then-full

@@ -10,8 +10,8 @@ unfolding room_fault
 returns-then-room-size c =
     let a = c.args in
     rw (lt-ltb a.room (a.place + a.size) (elim c.then-room-size.branch [
-      then-room-size-via-then-room-size w ↦ omega (arith, w.if-room-size.true)
-    | then-room-size-via-else-room-size+then-room-size-2 w ↦ omega (arith, w.if-room-size.false, w.if-room-size-2.true)
+      | then-room-size-via-then-room-size w ↦ omega (arith, w.if-room-size.true)
+      | then-room-size-via-else-room-size+then-room-size-2 w ↦ omega (arith, w.if-room-size.false, w.if-room-size-2.true)
     ]))
 
 pub returns : goal.returns
