@@ -9,7 +9,7 @@
 use Prim.Native.Nat.{ℕ, ◌+◌, ◌*◌, ◌≤◌, ◌<◌}
 use Rattle.std.specs.Prelude.{◌≡◌, Bool, true, false, take, get_or, leb}
 use Rattle.std.proofs.Math.Path.{refl, sym, ap}
-use Rattle.std.proofs.Common.{ap₂, subst, ◌∙◌, arith, add-zero, add-one, length-append, take_all, take-suc, leb-true}
+use Rattle.std.proofs.Common.{subst, ◌∙◌, arith, add-zero, add-one, length-append, take_all, take-suc, leb-true}
 use mathlib.Core.List.{List, [], ◌++◌, flat_map, append_assoc}
 use Rattle.std.proofs.Math.ListN.{length}
 use Rattle.minplus.specs.Curve.{Curve}

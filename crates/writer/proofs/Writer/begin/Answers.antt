@@ -1,9 +1,8 @@
 use mathlib.Core.Path.{refl}
 use native.Mathlib.Omega.{arith}
-use lib.ListN.{length}
 use Rattle.std.proofs.lemmas.Result.{err_from_is_err_and}
 use Rattle.field.specs.Steps.{after}
-use Rattle.writer.specs.Writing.{begin, argument_fault, Passes}
+use Rattle.writer.specs.Writing.{begin, argument_fault}
 use Rattle.writer.specs.Held.{version_size}
 use Rattle.writer.proofs.Tests.{admits, refused_return, taken_return}
 use Rattle.writer.proofs.Writer.begin.Goals as goal
