@@ -7,24 +7,20 @@
 --     capped_twice      D capped, and then P capped over that, is P capped: of any three periods
 --     capped_given      from 4,097 or more it is 4,097, in either place, whatever the other period
 --     plus_capped, max-capped     sums and greater ones are the same of numbers that are capped to one
---     horizon_from      the answer for a horizon: itself up to 4,096, and above that no number (horizon_at,
---                       horizon_above)
+--     horizon_from      the answer for a horizon: itself up to 4,096, and above that none (horizon_at, horizon_above)
 --     horizon-capped    which is the same of numbers that are capped to one
 --     capped_rows, horizon_rows     computed
-use Rattle.std.specs.Prelude.{ℕ, ◌+◌, ◌≤◌, ◌<◌, min, max, ◌≡◌, refl, ◌↔◌, ◌⊎◌, Bool, true, false, ltb}
+use Rattle.std.specs.Prelude.{ℕ, ◌+◌, ◌≤◌, ◌<◌, min, max, ◌≡◌, refl, ◌↔◌, ◌⊎◌, Bool, true, false, ltb, Option, Some, None}
 use Rattle.std.proofs.Common.{sym, ap, ◌∙◌, inl, inr, ⊎_elim, arith, ltb-true, ltb-false}
-use Rattle.std.proofs.lemmas.Bool.{false≢true}
 use Rattle.minplus.specs.Divisor.{gcd, lcm, lcm_at_least, lcm_comm, lcm-min}
 use Rattle.minplus.specs.Horizon.{max_horizon}
 use Rattle.curve.specs.declared.Ticks.{Ticks}
-use Rattle.horizon.specs.declared.Horizon.{Horizon}
-use Rattle.horizon.specs.declared.Horizon.TheVariants.{At, Above}
 
 abbrev pub capped : ℕ → ℕ
 capped n = min n 4_097
 
-unfoldable pub horizon_from : ℕ → Horizon
-horizon_from n = elim (ltb max_horizon n) [ true ↦ Above | false ↦ At (record { 0 = n }) ]
+unfoldable pub horizon_from : ℕ → Option Ticks
+horizon_from n = elim (ltb max_horizon n) [ true ↦ None | false ↦ Some (record { 0 = n }) ]
 
 -- ---- laws
 
@@ -42,17 +38,9 @@ plus_capped a b m n e e' = omega arith
 pub max-capped : (a b n : ℕ) → capped a ≡ capped b → capped (max a n) ≡ capped (max b n)
 max-capped a b n e = omega arith
 
-is_above : Horizon → Bool
-is_above (At _) = false
-is_above Above = true
-
-ticks_of : Horizon → ℕ
-ticks_of (At t) = t.0
-ticks_of Above = 0
-
 -- which of the two it is, and why
 abbrev Stands : ℕ → Type 0
-Stands n = ((n ≤ max_horizon) × (horizon_from n ≡ At (record { 0 = n }))) ⊎ ((max_horizon < n) × (horizon_from n ≡ Above))
+Stands n = ((n ≤ max_horizon) × (horizon_from n ≡ Some (record { 0 = n }))) ⊎ ((max_horizon < n) × (horizon_from n ≡ None))
 
 horizon_either : (n : ℕ) → Stands n
 unfolding horizon_from
@@ -63,17 +51,15 @@ horizon_either n = go (ltb max_horizon n) refl
     go false e = inl (ltb-false max_horizon n e, rw (e, horizon_from))
 
 -- "A horizon above 4,096 gives "not judged"": exactly when
-pub horizon_at : (n : ℕ) (t : Ticks) → (horizon_from n ≡ At t) ↔ ((n ≡ t.0) × (n ≤ max_horizon))
-unfolding is_above ticks_of
+pub horizon_at : (n : ℕ) (t : Ticks) → (horizon_from n ≡ Some t) ↔ ((n ≡ t.0) × (n ≤ max_horizon))
 horizon_at n t = (
-  λ is. ⊎_elim (λ w. (ap ticks_of (sym w.1 ∙ is), w.0)) (λ w. absurd (false≢true (ap is_above (sym is ∙ w.1)))) (horizon_either n),
-  λ at. ⊎_elim (λ w. w.1 ∙ ap (λ (m : ℕ). At (record { 0 = m })) at.0) (λ w. absurd (omega (arith, at.1, w.0))) (horizon_either n),
+  λ is. ⊎_elim (λ w. (cc (is, w.1), w.0)) (λ w. absurd (cc (is, w.1))) (horizon_either n),
+  λ at. ⊎_elim (λ w. w.1 ∙ ap (λ (m : ℕ). Some (record { 0 = m })) at.0) (λ w. absurd (omega (arith, at.1, w.0))) (horizon_either n),
 )
 
-pub horizon_above : (n : ℕ) → (horizon_from n ≡ Above) ↔ (max_horizon < n)
-unfolding is_above
+pub horizon_above : (n : ℕ) → (horizon_from n ≡ None) ↔ (max_horizon < n)
 horizon_above n = (
-  λ is. ⊎_elim (λ w. absurd (false≢true (ap is_above (sym w.1 ∙ is)))) (λ w. w.0) (horizon_either n),
+  λ is. ⊎_elim (λ w. absurd (cc (is, w.1))) (λ w. w.0) (horizon_either n),
   λ far. ⊎_elim (λ w. absurd (omega (arith, far, w.0))) (λ w. w.1) (horizon_either n),
 )
 
@@ -90,6 +76,6 @@ pub capped_rows : (capped (lcm 4_096 1) ≡ 4_096) × (capped (lcm 17 241) ≡ 4
 unfolding gcd lcm
 capped_rows = (refl, refl, refl, refl, refl, refl, refl, refl, refl)
 
-pub horizon_rows : (horizon_from 4_096 ≡ At (record { 0 = 4_096 })) × (horizon_from 4_097 ≡ Above) × (horizon_from 0 ≡ At (record { 0 = 0 }))
+pub horizon_rows : (horizon_from 4_096 ≡ Some (record { 0 = 4_096 })) × (horizon_from 4_097 ≡ None) × (horizon_from 0 ≡ Some (record { 0 = 0 }))
 unfolding horizon_from
 horizon_rows = (refl, refl, refl)

@@ -1,12 +1,11 @@
 -- What the steps of the horizon's code compute, in the words of the crate minplus.
 --
---     choice greatest                      the greater or the lesser of two numbers
 --     signed_of                            a struct of two numbers as a signed number
 --     Limited                              a curve's numbers keep their limits, as those of a well-formed one do
 --                                          (limited)
 --     Raisable, Extent, Small, Ready, Crossable     what is known where it is computed, so that products fit: no
 --                                          extreme is above large, no sum of products above far
---     raised_fits, raisable, small_more, choice_fits, begun_fits, above_fits, below_fits, faster_fits     that they do
+--     raised_fits, raisable, small_more, begun_fits, above_fits, below_fits, faster_fits     that they do
 --     even_rank, crossing_n                the rank with equal rates from D, and N where f is the slower curve
 --     rates_left, rates_right, rates_even  by the three ways in which two rates can stand; convolution_none,
 --                                          convolution_some: by T
@@ -15,7 +14,7 @@
 --     horizon_numbers                      of the claimed curve the horizon asks the numbers alone
 --     horizon_answer                       the answer: no horizon for a claim that is not well formed (horizon_none),
 --                                          else its horizon as far as there is one (horizon_some)
-use Rattle.std.specs.Prelude.{ℕ, suc, ◌+◌, ◌-◌, ◌*◌, ◌≤◌, ◌<◌, min, max, ◌≡◌, refl, Bool, true, false, List}
+use Rattle.std.specs.Prelude.{ℕ, suc, ◌+◌, ◌-◌, ◌*◌, ◌≤◌, ◌<◌, min, max, ◌≡◌, refl, Bool, true, false, List, Option, Result, Ok, Err}
 use Rattle.std.proofs.Common.{sym, ap, ◌∙◌, arith, mul-le-mul, le_of_lt}
 use Rattle.std.proofs.Math.Nat.{max_comm}
 use Rattle.minplus.specs.Curve as C
@@ -27,16 +26,13 @@ use Rattle.minplus.specs.Horizon.{Slower}
 use Rattle.curve.specs.declared.Claim as code
 use Rattle.curve.specs.declared.Claim.TheVariants.{Equals, AtMost, Exactly}
 use Rattle.curve.specs.declared.Form.{Form}
+use Rattle.curve.specs.declared.Ticks.{Ticks}
 use Rattle.curve.specs.Steps.{Steps, Lent, curve_from}
 use Rattle.curve.specs.Held.{held_as, rates_of}
 use Rattle.curve.specs.Claimed.{claim_over}
 use Rattle.horizon.specs.declared.crossing.Signed.{Signed}
-use Rattle.horizon.specs.declared.Measured.{Measured}
+use Rattle.limits.specs.declared.IllFormed.{IllFormed}
 use Rattle.horizon.specs.Capped.{capped, capped_twice, horizon_from, max-capped, plus_capped}
-
-abbrev pub choice : Bool → ℕ → ℕ → ℕ
-choice true = max
-choice false = min
 
 abbrev pub signed_of : Signed → H.Signed
 signed_of s = record { plus = s.plus; minus = s.minus }
@@ -99,9 +95,9 @@ crossing_n M.sum f g = 0
 crossing_n M.minimum f g = H.minimum_n f g
 crossing_n M.convolution f g = H.convolution_n f g
 
-unfoldable pub horizon_answer : M.Claim → Measured
+unfoldable pub horizon_answer : M.Claim → Result (Option Ticks) IllFormed
 unfolding M.well_formed_claim H.horizon horizon_from
-horizon_answer c = elim (M.well_formed_claim c) [ true ↦ Measured.Horizon (horizon_from (H.horizon c)) | false ↦ Measured.IllFormed ]
+horizon_answer c = elim (M.well_formed_claim c) [ true ↦ Ok (horizon_from (H.horizon c)) | false ↦ Err (record {}) ]
 
 -- ---- laws
 
@@ -127,10 +123,6 @@ raisable {s} over n lt is few = record {
   slope_fits = over.slope_fits;
   left_fits = omega (arith, few, over.room);
 }
-
-pub choice_fits : (greatest : Bool) {a b bound : ℕ} → a ≤ bound → b ≤ bound → choice greatest a b ≤ bound
-choice_fits true ha hb = omega arith
-choice_fits false ha hb = omega arith
 
 pub begun_fits : {f : C.Curve} {s : Steps} → Limited f → Lent s → ((H.begun_at f (curve_from s)).plus ≤ large) × ((H.begun_at f (curve_from s)).minus ≤ large)
 begun_fits {f} {s} at lent =
@@ -240,10 +232,10 @@ horizon_numbers (Exactly x) f g h l = refl
 
 -- the answer from what holds
 module _ (c : M.Claim) where
-  pub horizon_none : M.well_formed_claim c ≡ false → horizon_answer c ≡ Measured.IllFormed
+  pub horizon_none : M.well_formed_claim c ≡ false → horizon_answer c ≡ Err (record {})
   unfolding horizon_answer
   horizon_none e = rw (e, horizon_answer)
 
-  pub horizon_some : M.well_formed_claim c ≡ true → horizon_answer c ≡ Measured.Horizon (horizon_from (H.horizon c))
+  pub horizon_some : M.well_formed_claim c ≡ true → horizon_answer c ≡ Ok (horizon_from (H.horizon c))
   unfolding horizon_answer
   horizon_some e = rw (e, horizon_answer)

@@ -1,30 +1,38 @@
-use mathlib.Core.Path.{sym, ap, ◌∙◌}
+use mathlib.Core.Path.{◌≡◌, sym, ap, ap₂, ◌∙◌}
 use native.Mathlib.Omega.{arith}
-use Rattle.minplus.specs.Claim.{Claim, WellFormedClaim, well_formed_claim_lem}
-use Rattle.horizon.specs.declared.Measured.TheVariants as Measured
-use Rattle.curve.specs.Held.{curve_of}
-use Rattle.curve.specs.Claimed.{claim_of, two_well}
+use Rattle.std.specs.Prelude.{Ok}
+use lib.ListN.{length}
+use Rattle.minplus.specs.Curve.{Curve, WellFormed}
+use Rattle.minplus.specs.Horizon.{horizon}
+use Rattle.minplus.specs.Claim.{well_formed_claim_lem}
+use Rattle.curve.specs.declared.Curve as code
+use Rattle.curve.specs.Steps.{Steps, Lent, curve_from}
+use Rattle.curve.specs.Held.{curve_of, rates_of, steps_in}
+use Rattle.curve.specs.Claimed.{claim_over, two_well}
 use Rattle.horizon.specs.Capped.{horizon_from}
 use Rattle.horizon.specs.Reach.{horizon_none, horizon_some, horizon_numbers}
 use Rattle.horizon.proofs.horizon_of.Goals as goal
 
+-- a well-formed working copy, as it is lent
+lent : {s : Steps} {f : code.Curve} → s ≡ steps_in f → length s.rises ≡ 256 → WellFormed (curve_of f) → Lent s
+lent {s} same whole w =
+    let well : WellFormed (curve_from s) = rw same w in record { room = omega (arith, whole, well.count_fits); well = well }
+
 pub returns-then-not-well_formed_claim : goal.returns-then-not-well_formed_claim
-returns-then-not-well_formed_claim c =
-    let a = c.args in
-    sym (horizon_none (claim_of a.claim a.f a.g a.h) (sym c.well_formed_claim.ensures ∙ c.if-not-well_formed_claim.true))
+returns-then-not-well_formed_claim c = sym (horizon_none _ (sym c.well_formed_claim.ensures ∙ c.if-not-well_formed_claim.true))
 
 pub horizon_over-requires : goal.horizon_over-requires
 horizon_over-requires c =
-    let claim : Claim = let a = c.args in claim_of a.claim a.f a.g a.h in
-    let well : WellFormedClaim claim = (well_formed_claim_lem claim).0 (sym c.well_formed_claim.ensures ∙ c.if-not-well_formed_claim.false) in
     let a = c.args in
-    let two = two_well a.claim a.f a.g a.h well in
-    (record { room = omega (arith, two.0.count_fits); well = two.0 }, record { room = omega (arith, two.1.count_fits); well = two.1 })
+    let well = (well_formed_claim_lem _).0 (sym c.well_formed_claim.ensures ∙ c.if-not-well_formed_claim.false) in
+    let two = two_well a.claim a.f.now a.g.now a.h.now well in
+    (lent c.held.ensures.steps c.held.ensures.room two.0, lent c.held-2.ensures.steps c.held-2.ensures.room two.1)
 
 pub returns : goal.returns
 returns c =
-    let claim : Claim = let a = c.args in claim_of a.claim a.f a.g a.h in
-    let well : WellFormedClaim claim = (well_formed_claim_lem claim).0 (sym c.well_formed_claim.ensures ∙ c.if-not-well_formed_claim.false) in
     let a = c.args in
-    ap Measured.Horizon (c.horizon_over.ensures ∙ ap horizon_from (horizon_numbers a.claim (curve_of a.f) (curve_of a.g) a.h.form a.h.rises))
-    ∙ sym (horizon_some claim ((well_formed_claim_lem claim).1 well))
+    ap Ok
+    (c.horizon_over.ensures
+    ∙ ap horizon_from (ap₂ (λ (f g : Curve). horizon (claim_over a.claim f g (rates_of a.h.now.form))) (ap curve_from c.held.ensures.steps) (ap curve_from c.held-2.ensures.steps))
+    ∙ ap horizon_from (horizon_numbers a.claim (curve_of a.f.now) (curve_of a.g.now) a.h.now.form a.h.now.rises))
+    ∙ sym (horizon_some _ (sym c.well_formed_claim.ensures ∙ c.if-not-well_formed_claim.false))

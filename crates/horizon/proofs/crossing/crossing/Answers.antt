@@ -1,35 +1,21 @@
+use Prim.Native.Nat.{ℕ, suc, ◌+◌, ◌-◌, ◌*◌, ◌/◌, ◌<◌}
+use mathlib.Core.Path.{◌≡◌, ◌∙◌}
 use native.Mathlib.Omega.{arith}
-use Rattle.minplus.specs.Horizon.{crossing}
-use Rattle.horizon.specs.Reach.{above_fits, below_fits, faster_fits}
+use native.Mathlib.Nat.{div-lt_iff_lt-mul, le-div_iff_mul-le}
+use Rattle.std.specs.Int.{div_ceil}
+use Rattle.std.proofs.lemmas.Grind.{div_ceil_times}
+use Rattle.minplus.specs.Horizon.{crossing, rounded_up}
 use Rattle.horizon.proofs.crossing.crossing.Goals as goal
 
-pub overflow_mul-e : goal.overflow_mul-e
-overflow_mul-e c = omega (arith, above_fits c.requires)
-
-pub overflow_mul-d : goal.overflow_mul-d
-overflow_mul-d c = omega (arith, above_fits c.requires)
-
-pub overflow_add-e : goal.overflow_add-e
-overflow_add-e c = omega (arith, above_fits c.requires)
-
-pub overflow_mul-d-2 : goal.overflow_mul-d-2
-overflow_mul-d-2 c = omega (arith, below_fits c.requires)
-
-pub overflow_mul-e-2 : goal.overflow_mul-e-2
-overflow_mul-e-2 c = omega (arith, below_fits c.requires)
-
-pub overflow_add-d : goal.overflow_add-d
-overflow_add-d c = omega (arith, below_fits c.requires)
-
-pub overflow_mul-faster : goal.overflow_mul-faster
-overflow_mul-faster c = omega (arith, faster_fits c.requires)
-
-pub overflow_mul-faster-2 : goal.overflow_mul-faster-2
-overflow_mul-faster-2 c = omega (arith, faster_fits c.requires)
-
-pub overflow_add-result : goal.overflow_add-result
-overflow_add-result c = omega (arith, c.excess-ahead.ensures, above_fits c.requires, faster_fits c.requires)
+ceil-rounded : (x y : ℕ) → 0 < y → div_ceil x y ≡ rounded_up x y
+unfolding rounded_up
+ceil-rounded x y some =
+    let k : ℕ = div_ceil x y in
+    let at = div_ceil_times x y some in
+    let least = (le-div_iff_mul-le {k = y} {x = k} {y = x + (y - 1)} some).1 (omega (arith, at.1)) in
+    let most = (div-lt_iff_lt-mul {k = y} {x = x + (y - 1)} {y = suc k} some).1 (omega (arith, at.0)) in
+    omega (arith, least, most)
 
 pub returns : goal.returns
 unfolding crossing
-returns c = rw c.excess-ahead.ensures
+returns c = c.div_ceil.ensures ∙ rw c.saturating_sub-ahead.ensures (ceil-rounded _ _ (omega (arith, c.requires.slower)))

@@ -1,5 +1,5 @@
-use Prim.Native.Nat.{ℕ, suc, ◌+◌, ◌-◌, ◌*◌}
-use mathlib.Core.Path.{◌≡◌, sym, ap, ap₂, ◌∙◌}
+use Prim.Native.Nat.{ℕ, suc, ◌+◌, ◌-◌, ◌*◌, ◌≤◌, ◌<◌}
+use mathlib.Core.Path.{◌≡◌, refl, sym, ap, ap₂, ◌∙◌}
 use native.Mathlib.Omega.{arith}
 use native.Mathlib.Nat.{mul-le-mul}
 use Rattle.minplus.specs.Search.{best, best-next}
@@ -7,108 +7,72 @@ use Rattle.minplus.specs.Curve.{value}
 use Rattle.minplus.specs.Horizon.{extreme_of, raised_at}
 use Rattle.curve.specs.declared.walks.Walk.{Walk}
 use Rattle.curve.specs.Steps.{Steps, curve_from}
-use Rattle.curve.specs.Held.{held_as}
-use Rattle.curve.specs.Walks.{next_walk, walk_at, walk_able, walk_begins, walk_goes_on}
-use Rattle.horizon.specs.Reach.{choice, choice_fits, raisable}
+use Rattle.curve.specs.Held.{steps_of}
+use Rattle.curve.specs.Walks.{next_walk, walk_at, walk_by, walk_able, walk_begins, walk_next}
+use Rattle.horizon.specs.Reach.{Extent, Raisable, large, raisable}
 use Rattle.horizon.proofs.crossing.extreme.Goals as goal
 
+-- where the walk begins, and a turn of it
+module _ {s : Steps} {d c start count : ℕ} (over : Extent s d c start count) where
+  begins : {w : Walk} → w ≡ walk_by s start → w ≡ walk_at s (start + 0)
+  begins is = let here : start ≡ start + 0 = omega arith in is ∙ walk_begins s over.lent.well start (omega (arith, over.room)) ∙ ap (walk_at s) here
+
+  turns : {v w : Walk} (i : ℕ) → 1 ≤ i → i < count → v ≡ walk_at s (start + (i - 1)) → w ≡ next_walk s v → w ≡ walk_at s (start + i)
+  turns i some lt here on =
+      let there : start + (i - 1) + 1 ≡ start + i = omega arith in
+      walk_next over.lent here on (omega (arith, over.room)) ∙ ap (walk_at s) there
+
+  fits : {w : Walk} (i : ℕ) → i < count → w ≡ walk_at s (start + i) → Raisable w.value.0 d c (count - i)
+  fits i lt is = raisable over (start + i) (omega arith) (ap (λ (w : Walk). w.value.0) is) (omega arith)
+
 pub raised-kept-requires : goal.raised-kept-requires
-raised-kept-requires c =
-    let begins : c.at-walk.result ≡ walk_at (let a = c.args in held_as a.form a.rises.now) c.args.start.0 = let a = c.args in
-    let pre = c.requires in
-    c.at-walk.ensures ∙ walk_begins (held_as a.form a.rises.now) pre.lent.well a.start.0 (omega (arith, pre.room)) in
-    let pre = c.requires in
-    raisable pre c.args.start.0 (omega (arith, pre.some)) (ap (λ (w : Walk). w.value.0) begins) (omega arith)
+raised-kept-requires g c = let e : c.args.count - 0 ≡ c.args.count = omega arith in let pre = c.requires.1.0 in rw e at (fits pre 0 (omega (arith, pre.some)) (begins pre c.at-walk.ensures))
 
 pub loop-i-init : goal.loop-i-init
 unfolding best
-loop-i-init c =
-    let begins : c.at-walk.result ≡ walk_at (let a = c.args in held_as a.form a.rises.now) c.args.start.0 = let a = c.args in
-    let pre = c.requires in
-    c.at-walk.ensures ∙ walk_begins (held_as a.form a.rises.now) pre.lent.well a.start.0 (omega (arith, pre.room)) in
-    let a = c.args in
-    let F : ℕ → ℕ = value (curve_from (held_as a.form a.rises.now)) in
-    let begun = begins in
-    let at : a.start.0 ≡ a.start.0 + 0 = omega arith in
-    let all : a.count ≡ a.count - 0 = omega arith in (
-      omega arith,
-      (
-        c.requires.some,
-        (
-          begun ∙ ap (walk_at (held_as a.form a.rises.now)) at,
-          (
-            c.raised-kept.ensures.value ∙ ap₂ (λ (v n : ℕ). a.d * v + a.c * n) (ap (λ (w : Walk). w.value.0) begun ∙ ap F at) all,
-            c.raised-kept.ensures.upper_bound,
-          ),
-        ),
-      ),
-    )
+loop-i-init g c =
+    let all : c.args.count ≡ c.args.count - 0 = omega arith in
+    let is = begins c.requires.1.0 c.at-walk.ensures in record {
+      walk = is;
+      kept = c.raised-kept.ensures.value ∙ ap₂ (λ (w : Walk) (n : ℕ). c.args.rate.period * w.value.0 + c.args.rate.increment * n) is all;
+      fits = c.raised-kept.ensures.upper_bound;
+    }
 
 pub next-walk-requires : goal.next-walk-requires
-next-walk-requires c =
+next-walk-requires g c =
     let a = c.args in
-    let pre = c.requires in
-    let t = c.loop-i in
-    rw t.invariant.1.1.0 (walk_able pre.lent (a.start.0 + (t.i - 1)) (omega (arith, pre.room)))
+    rw c.loop-i.invariant.walk (walk_able c.requires.1.0.lent (a.start.0 + (c.loop-i.i - 1)) (omega (arith, c.requires.1.0.room)))
 
 pub raised-requires : goal.raised-requires
-raised-requires c =
-    let goes_on : c.next-walk.result ≡ walk_at (let a = c.args in held_as a.form a.rises.now) (c.args.start.0 + c.loop-i.i) = let a = c.args in
-    let pre = c.requires in
-    let t = c.loop-i in
-    let s : Steps = held_as a.form a.rises.now in
-    let on : suc (a.start.0 + (t.i - 1)) ≡ a.start.0 + t.i = omega arith in
-    c.next-walk.ensures ∙ ap (next_walk (held_as a.form a.rises.now)) t.invariant.1.1.0
-    ∙ walk_goes_on s pre.lent.well (a.start.0 + (t.i - 1)) (omega (arith, pre.room)) ∙ ap (walk_at s) on in
-    let pre = c.requires in
-    raisable pre _ (omega arith) (ap (λ (w : Walk). w.value.0) goes_on) (omega arith)
+raised-requires g c =
+    let pre = c.requires.1.0 in
+    fits pre c.loop-i.i (omega arith) (turns pre c.loop-i.i (omega arith) (omega arith) c.loop-i.invariant.walk c.next-walk.ensures)
 
 pub loop-i-preserved : goal.loop-i-preserved
-loop-i-preserved c =
-    let goes_on : c.next-walk.result ≡ walk_at (let a = c.args in held_as a.form a.rises.now) (c.args.start.0 + c.loop-i.i) = let a = c.args in
-    let pre = c.requires in
-    let t = c.loop-i in
-    let s : Steps = held_as a.form a.rises.now in
-    let on : suc (a.start.0 + (t.i - 1)) ≡ a.start.0 + t.i = omega arith in
-    c.next-walk.ensures ∙ ap (next_walk (held_as a.form a.rises.now)) t.invariant.1.1.0
-    ∙ walk_goes_on s pre.lent.well (a.start.0 + (t.i - 1)) (omega (arith, pre.room)) ∙ ap (walk_at s) on in
-    let t = c.loop-i in
+loop-i-preserved g c =
+    let pre = c.requires.1.0 in
+    let i = c.loop-i.i in
+    let same : i + 1 - 1 ≡ i = omega arith in
+    let on = turns pre i (omega arith) (omega arith) c.loop-i.invariant.walk c.next-walk.ensures in
     let a = c.args in
-    let s : Steps = held_as a.form a.rises.now in
-    let h = raised_at (value (curve_from s)) a.d a.c a.start.0 a.count in
-    let on = goes_on in
-    let same : t.i + 1 - 1 ≡ t.i = omega arith in
-    let raised : c.raised.result ≡ h t.i =
-    c.raised.ensures.value ∙ ap (λ (w : Walk). a.d * w.value.0 + a.c * (a.count - t.i)) on in
-    let kept : c.chosen-kept.result ≡ best (choice a.greatest) h t.i =
-    c.chosen-kept.ensures ∙ rw (t.invariant.1.1.1.0, raised) (sym (best-next (choice a.greatest) h t.i t.invariant.0)) in (
-      omega arith,
-      (
-        omega arith,
-        (
-          on ∙ ap (λ (n : ℕ). walk_at s (a.start.0 + n)) (sym same),
-          (
-            rw same kept,
-            rw c.chosen-kept.ensures (choice_fits a.greatest t.invariant.1.1.1.1 c.raised.ensures.upper_bound),
-          ),
-        ),
-      ),
-    )
+    let h = raised_at (value (curve_from (steps_of a.f))) a.rate.period a.rate.increment a.start.0 a.count in
+    let raised : c.raised.result ≡ h i = c.raised.ensures.value ∙ ap (λ (w : Walk). a.rate.period * w.value.0 + a.rate.increment * (a.count - i)) on in
+    let chosen : c.choose-kept.result ≡ g.choice c.loop-i.kept c.raised.result = c.requires.1.1.1.0 _ _ _ c.choose-kept.ensures in
+    rw same (record {
+      walk = on;
+      kept = chosen ∙ ap₂ g.choice c.loop-i.invariant.kept raised ∙ sym (best-next g.choice h i (omega arith));
+      fits = rw chosen (c.requires.1.1.1.1 _ _ c.loop-i.invariant.fits c.raised.ensures.upper_bound);
+    })
 
-pub overflow_add-minus : goal.overflow_add-minus
-overflow_add-minus c = omega (arith, c.requires.room)
-
-pub overflow_cast-minus : goal.overflow_cast-minus
-overflow_cast-minus c = omega (arith, c.requires.room)
-
-pub overflow_mul-minus : goal.overflow_mul-minus
-overflow_mul-minus c = omega (arith, mul-le-mul c.requires.slope_fits c.requires.room)
-
-pub returns : goal.returns
+pub returns-clause-result_value : goal.returns-clause-result_value
 unfolding extreme_of
-returns c =
-    let t = c.loop-i in
+returns-clause-result_value g c =
+    let end : c.loop-i.i - 1 ≡ c.args.count - 1 = omega (arith, c.loop-i.auto.i-end c.requires.1.0.some) in
     let a = c.args in
-    let pre = c.requires in
-    let end : t.i - 1 ≡ a.count - 1 = omega arith in
-    let h = raised_at (value (curve_from (held_as a.form a.rises.now))) a.d a.c a.start.0 a.count in record { result_value = ap (λ (p : ℕ). record { plus = p; minus = a.c * (a.start.0 + a.count) }) (t.invariant.1.1.1.0 ∙ ap (best (choice a.greatest) h) end); small = record { plus_fits = t.invariant.1.1.1.1; minus_fits = omega (arith, mul-le-mul pre.slope_fits pre.room) } }
+    ap (λ (p : ℕ). record { plus = p; minus = a.rate.increment * (a.start.0 + a.count) })
+    (c.loop-i.invariant.kept ∙ ap (best g.choice (raised_at (value (curve_from (steps_of a.f))) a.rate.period a.rate.increment a.start.0 a.count)) end)
+
+pub returns-clause-small : goal.returns-clause-small
+returns-clause-small g c =
+    let pre = c.requires.1.0 in
+    record { plus_fits = c.loop-i.invariant.fits; minus_fits = omega (arith, mul-le-mul pre.slope_fits pre.room) }

@@ -8,12 +8,6 @@ use Rattle.horizon.proofs.divisor.common_multiple.Goals as goal
 pub returns-then-b-eq0 : goal.returns-then-b-eq0
 returns-then-b-eq0 c = rw (c.if-b-eq0.true, lcm_of_0 c.args.a)
 
-pub overflow_mul-result : goal.overflow_mul-result
-overflow_mul-result c =
-    let few : c.args.a / c.common_divisor.result * c.args.b ≤ 4_096 = let some : 0 < c.args.b = omega arith in
-    (le-div_iff_mul-le some).0 c.if-times-b.true in
-    omega (arith, few)
-
 pub returns-then-times-b : goal.returns-then-times-b
 unfolding lcm
 returns-then-times-b c =
