@@ -11,8 +11,9 @@
 --                              as the search has compared
 --     later_code               the codes after the first break (later_is); IsLater, LaterAsked: of two curves, and what
 --                              they ask (later_asked)
-use Rattle.std.specs.Prelude.{ℕ, ◌≤◌, ◌<◌, ◌≡◌, refl, Bool, true, false}
+use Rattle.std.specs.Prelude.{ℕ, ◌≤◌, ◌<◌, ◌≡◌, refl, Bool, true, false, Result, Ok, Err, Some, None}
 use Rattle.std.proofs.Common.{sym, ap, ap₂, ◌∙◌, lt-ltb, le-ltb}
+use Rattle.std.specs.Prelude as code_option
 use Rattle.std.proofs.Math.Option.{Option, none, some}
 use Rattle.minplus.specs.Curve.{Curve}
 use Rattle.minplus.specs.Claim.{Claim, well_formed_claim}
@@ -28,30 +29,30 @@ use Rattle.curve.specs.Claimed.{claim_over}
 use Rattle.verdict.specs.declared.Verdict.{Verdict}
 use Rattle.verdict.specs.declared.Verdict.TheVariants.{Accepted, RefutedAt, RefutedByRate, NotLeast, NotJudged}
 use Rattle.verdict.specs.declared.Decided.{Decided}
-use Rattle.verdict.specs.declared.Judged.{Judged}
+use Rattle.limits.specs.declared.IllFormed.{IllFormed}
 use Rattle.verdict.specs.declared.Record.{Record}
 use Rattle.search.specs.declared.Compared.{Compared}
-use Rattle.search.specs.declared.Found.{Found}
-use Rattle.search.specs.declared.Found.TheVariants.{At, Nowhere}
+use Rattle.search.specs.declared.Break.{Break}
 use Rattle.search.specs.Found.{compared_from, compared_of}
 use Rattle.search.specs.Break.{Judgeable, LessAsked, break_of}
+use Rattle.verdict.specs.Codes.{number_of}
 
 abbrev pub verdict_of : Verdict → C.Verdict
 verdict_of Accepted = accepted
-verdict_of (RefutedAt tick left right) = refuted_at tick.0 left.0 right.0
+verdict_of (RefutedAt broken) = refuted_at broken.tick.0 broken.left.0 broken.right.0
 verdict_of RefutedByRate = refuted_by_rate
 verdict_of NotLeast = not_least
 verdict_of NotJudged = not_judged
 
 abbrev pub numbers_of : Record → C.Record
-numbers_of r = record { code = r.code; tick = r.tick.0; left = r.left.0; right = r.right.0; tried = r.tried.0 }
+numbers_of r = record { code = number_of r.code; tick = r.tick.0; left = r.left.0; right = r.right.0; tried = r.tried.0 }
 
 abbrev pub decided_of : Decided → C.Record
 decided_of d = record_with (verdict_of d.verdict) d.tried.0
 
-abbrev pub judged_of : Judged → Option C.Record
-judged_of (Judged.Decided d) = some (decided_of d)
-judged_of Judged.IllFormed = none
+abbrev pub judged_of : Result Decided IllFormed → Option C.Record
+judged_of (Ok d) = some (decided_of d)
+judged_of (Err e) = none
 
 unfoldable pub judgement : Claim → Option C.Record
 unfolding well_formed_claim record_on
@@ -71,9 +72,9 @@ LaterAsked (Equals o) f g at = Unit {0}
 LaterAsked (AtMost x) f g at = Unit {0}
 LaterAsked (Exactly x) f g at = LessAsked x f g at
 
-abbrev pub ordered : Found → Claim → C.Verdict
-ordered (At tick left right) c = refuted_at tick.0 left.0 right.0
-ordered Nowhere c = later_code c
+abbrev pub ordered : code_option.Option Break → Claim → C.Verdict
+ordered (Some broken) c = refuted_at broken.tick.0 broken.left.0 broken.right.0
+ordered None c = later_code c
 
 -- ---- laws
 
@@ -82,7 +83,7 @@ undecided r = record { verdict = go (verdict_by r.code r); tried = record { 0 = 
   where
     go : C.Verdict → Verdict
     go accepted = Accepted
-    go (refuted_at tick left right) = RefutedAt (record { 0 = tick }) (record { 0 = left }) (record { 0 = right })
+    go (refuted_at tick left right) = RefutedAt (record { tick = record { 0 = tick }; left = record { 0 = left }; right = record { 0 = right } })
     go refuted_by_rate = RefutedByRate
     go not_least = NotLeast
     go not_judged = NotJudged
@@ -93,7 +94,7 @@ decided_one d e same = sym (back d.verdict d.tried) ∙ ap undecided same ∙ ba
   where
     back : (v : Verdict) (n : Ticks) → undecided (decided_of (record { verdict = v; tried = n })) ≡ record { verdict = v; tried = n }
     back Accepted n = refl
-    back (RefutedAt tick left right) n = refl
+    back (RefutedAt broken) n = refl
     back RefutedByRate n = refl
     back NotLeast n = refl
     back NotJudged n = refl

@@ -8,7 +8,7 @@
 --
 -- The hypotheses are met by every answer of verdict_on, whose contract the second one is, on a claim that keeps
 -- document 01's limits.
-use Rattle.std.specs.Prelude.{◌≡◌, ◌↔◌, ◌≤◌}
+use Rattle.std.specs.Prelude.{◌≡◌, ◌↔◌, ◌≤◌, Result}
 use Rattle.std.proofs.Common.{sym, ◌∙◌}
 use Rattle.std.proofs.Math.Path.{ap}
 use Rattle.std.proofs.Math.Option.{some}
@@ -19,11 +19,12 @@ use Rattle.minplus.specs.Verdict.{record_of, record_on}
 use Rattle.minplus.specs.Recorded.{record_one}
 use Rattle.minplus.specs.Meaning.{Meaning, well_formed_proper}
 use Rattle.minplus.proofs.Exact.{verdict_exact, accepted_exactly}
-use Rattle.verdict.specs.declared.Judged.{Judged}
+use Rattle.limits.specs.declared.IllFormed.{IllFormed}
+use Rattle.verdict.specs.declared.Decided.{Decided}
 use Rattle.verdict.specs.Given.{judged_of, judgement, judgement_some}
 
 -- what the code may answer on a well-formed claim is the record of its verdict
-module _ (r : Judged) (c : Claim) (well : WellFormedClaim c) (meets : judged_of r ≡ judgement c) where
+module _ (r : Result Decided IllFormed) (c : Claim) (well : WellFormedClaim c) (meets : judged_of r ≡ judgement c) where
   pub is_record : judged_of r ≡ some (record_on c)
   is_record = meets ∙ sym (judgement_some c ((well_formed_claim_lem c).1 well))
 

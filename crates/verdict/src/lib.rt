@@ -1,32 +1,28 @@
 // One claim over its curves: the verdict.
 #![tactic(auto)]
 
-ghost use Rattle.std.specs.Prelude.{◌≡◌, true, ◌≤◌, length};
+ghost use Rattle.std.specs.Prelude.{◌≡◌, true};
 ghost use Rattle.minplus.specs.Verdict.{not_judged, record_on, record_with};
 ghost use Rattle.curve.specs.Steps.{curve_from};
-ghost use Rattle.curve.specs.Held.{held_as};
+ghost use Rattle.curve.specs.Held.{steps_of};
 ghost use Rattle.curve.specs.Claimed.{LentClaim, claim_of, claim_over};
 ghost use Rattle.search.specs.Break.{Judgeable, break_of};
-ghost use Rattle.splits.specs.Parts.{work_room};
 ghost use Rattle.verdict.specs.Given.{IsLater, LaterAsked, decided_of, judged_of, judgement, numbers_of, verdict_of};
+ghost use Rattle.verdict.specs.Codes.{code_by};
 
 use curve::rates::slower;
-use curve::{Claim, Curve, Form, Operation, Ticks, Units};
-use horizon::{Horizon, horizon_over};
-use limits::well_formed_claim;
+use curve::{Claim, Curve, Held, Operation, Ticks, Units};
+use horizon::horizon_over;
+use limits::{IllFormed, well_formed_claim};
 use search::bounds::first_over;
 use search::results::first_unlike;
-use search::{Compared, Found, less_holds};
-use splits::{WORK, first_apart};
+use search::{Break, Compared, less_holds};
+use splits::{Work, first_apart};
 
 #[derive(Clone, Copy)]
 pub enum Verdict {
     Accepted,
-    RefutedAt {
-        tick: Ticks,
-        left: Units,
-        right: Units,
-    },
+    RefutedAt(Break),
     RefutedByRate,
     NotLeast,
     NotJudged,
@@ -39,17 +35,41 @@ pub struct Decided {
     pub tried: Ticks,
 }
 
-// A claim that breaks a limit has no verdict.
-#[derive(Clone, Copy)]
-pub enum Judged {
-    Decided(Decided),
-    IllFormed,
+// A verdict's number in its record.
+#[derive(Clone, Copy, PartialEq, Eq)]
+pub enum Code {
+    Accepted = 1,
+    RefutedAt,
+    RefutedByRate,
+    NotLeast,
+    NotJudged,
+}
+
+// A number that is no verdict's.
+#[derive(Clone, Copy, PartialEq, Eq)]
+pub struct UnknownCode;
+
+impl TryFrom<u8> for Code {
+    type Error = UnknownCode;
+
+    ghost try_from_gives = { λ number given. given ≡ code_by number };
+
+    fn try_from(number: u8) -> Result<Code, UnknownCode> {
+        match number {
+            1 => Ok(Code::Accepted),
+            2 => Ok(Code::RefutedAt),
+            3 => Ok(Code::RefutedByRate),
+            4 => Ok(Code::NotLeast),
+            5 => Ok(Code::NotJudged),
+            _ => Err(UnknownCode),
+        }
+    }
 }
 
 // The numbers of a verdict's record.
 #[derive(Clone, Copy)]
 pub struct Record {
-    pub code: u8,
+    pub code: Code,
     pub tick: Ticks,
     pub left: Units,
     pub right: Units,
@@ -71,62 +91,35 @@ pub fn untried() -> Decided
 fn first_break(
     claim: Claim,
     itself: bool,
-    f: Form,
-    left: &[u32],
-    g: Form,
-    right: &[u32],
-    h: Form,
-    claimed: &[u32],
+    f: Held,
+    g: Held,
+    h: Held,
     horizon: usize,
-    work: &mut [u32],
+    work: &mut Work,
 ) -> Compared
-    requires { Judgeable claim (held_as f left.now) (held_as g right.now) (held_as h claimed.now) horizon × (itself ≡ true → held_as f left.now ≡ held_as g right.now) × (work_room ≤ length work.old) }
-    ensures { result ≡ break_of (claim_over claim (curve_from (held_as f left.now)) (curve_from (held_as g right.now)) (curve_from (held_as h claimed.now))) }
+    requires { Judgeable claim (steps_of f) (steps_of g) (steps_of h) horizon × (itself ≡ true → steps_of f ≡ steps_of g) }
+    ensures { result ≡ break_of (claim_over claim (curve_from (steps_of f.entry)) (curve_from (steps_of g.entry)) (curve_from (steps_of h.entry))) }
 {
     match claim {
-        Claim::Equals(operation) => match operation {
-            Operation::Sum => { first_unlike(false, f, left, g, right, h, claimed, horizon + 1) }
-            Operation::Minimum => { first_unlike(true, f, left, g, right, h, claimed, horizon + 1) }
-            Operation::Convolution => {
-                first_apart(itself, f, left, g, right, h, claimed, horizon + 1, work)
-            }
-        },
-        Claim::AtMost(deviation) => first_over(deviation, f, left, g, right, horizon),
-        Claim::Exactly(deviation) => first_over(deviation, f, left, g, right, horizon),
+        Claim::Equals(Operation::Sum) => first_unlike(|a, b| a + b, f, g, h, horizon + 1),
+        Claim::Equals(Operation::Minimum) => first_unlike(u64::min, f, g, h, horizon + 1),
+        Claim::Equals(Operation::Convolution) => first_apart(itself, f, g, h, horizon + 1, work),
+        Claim::AtMost(deviation) | Claim::Exactly(deviation) => {
+            first_over(deviation, f, g, horizon)
+        }
     }
 }
 
 // The codes after the first break, in their order, of a claim that no tried tick breaks, whatever is claimed of its two
 // curves.
-fn later_code(
-    claim: Claim,
-    f: Form,
-    left: &[u32],
-    g: Form,
-    right: &[u32],
-    horizon: usize,
-) -> Verdict
-    requires { LaterAsked claim (held_as f left.now) (held_as g right.now) horizon }
-    ensures { IsLater (verdict_of result) claim (curve_from (held_as f left.now)) (curve_from (held_as g right.now)) }
+fn later_code(claim: Claim, f: Held, g: Held, horizon: usize) -> Verdict
+    requires { LaterAsked claim (steps_of f) (steps_of g) horizon }
+    ensures { IsLater (verdict_of result) claim (curve_from (steps_of f.entry)) (curve_from (steps_of g.entry)) }
 {
     match claim {
-        Claim::Equals(_) => Verdict::Accepted,
-        Claim::AtMost(_) => {
-            if slower(g, f) {
-                Verdict::RefutedByRate
-            } else {
-                Verdict::Accepted
-            }
-        }
-        Claim::Exactly(deviation) => {
-            if slower(g, f) {
-                Verdict::RefutedByRate
-            } else if less_holds(deviation, f, left, g, right, horizon) {
-                Verdict::NotLeast
-            } else {
-                Verdict::Accepted
-            }
-        }
+        Claim::AtMost(_) | Claim::Exactly(_) if slower(g.form, f.form) => Verdict::RefutedByRate,
+        Claim::Exactly(deviation) if less_holds(deviation, f, g, horizon) => Verdict::NotLeast,
+        _ => Verdict::Accepted,
     }
 }
 
@@ -135,68 +128,59 @@ fn later_code(
 fn in_order(
     claim: Claim,
     itself: bool,
-    f: Form,
-    left: &[u32],
-    g: Form,
-    right: &[u32],
-    h: Form,
-    claimed: &[u32],
+    f: Held,
+    g: Held,
+    h: Held,
     horizon: usize,
-    work: &mut [u32],
+    work: &mut Work,
 ) -> Decided
-    requires { Judgeable claim (held_as f left.now) (held_as g right.now) (held_as h claimed.now) horizon × (itself ≡ true → held_as f left.now ≡ held_as g right.now) × (work_room ≤ length work.old) }
-    ensures { decided_of result ≡ record_on (claim_over claim (curve_from (held_as f left.now)) (curve_from (held_as g right.now)) (curve_from (held_as h claimed.now))) }
+    requires { Judgeable claim (steps_of f) (steps_of g) (steps_of h) horizon × (itself ≡ true → steps_of f ≡ steps_of g) }
+    ensures { decided_of result ≡ record_on (claim_over claim (curve_from (steps_of f.entry)) (curve_from (steps_of g.entry)) (curve_from (steps_of h.entry))) }
 {
-    let compared = first_break(claim, itself, f, left, g, right, h, claimed, horizon, work);
-    let found = compared.found;
+    let compared = first_break(claim, itself, f, g, h, horizon, work);
     let tried = compared.ticks;
-    if let Found::At { tick, left, right } = found {
-        let verdict = Verdict::RefutedAt { tick, left, right };
+    if let Some(broken) = compared.found {
+        let verdict = Verdict::RefutedAt(broken);
         return Decided { verdict, tried };
     }
-    let verdict = later_code(claim, f, left, g, right, horizon);
+    let verdict = later_code(claim, f, g, horizon);
     Decided { verdict, tried }
 }
 
-// Of curves that are lent and known to be well formed, with numbers to work in, and whether left and right are said to
-// be the same curve. Nothing is tried for a claim whose horizon is above the limit.
+// Of curves that are lent and known to be well formed, with what to work in, and whether left and right are said to be
+// the same curve. Nothing is tried for a claim whose horizon is above the limit.
 pub fn verdict_over(
     claim: Claim,
     itself: bool,
-    f: Form,
-    left: &[u32],
-    g: Form,
-    right: &[u32],
-    h: Form,
-    claimed: &[u32],
-    work: &mut [u32],
+    f: Held,
+    g: Held,
+    h: Held,
+    work: &mut Work,
 ) -> Decided
-    requires { LentClaim claim (held_as f left.now) (held_as g right.now) (held_as h claimed.now) × (itself ≡ true → held_as f left.now ≡ held_as g right.now) × (work_room ≤ length work.old) }
-    ensures { decided_of result ≡ record_on (claim_over claim (curve_from (held_as f left.now)) (curve_from (held_as g right.now)) (curve_from (held_as h claimed.now))) }
+    requires { LentClaim claim (steps_of f) (steps_of g) (steps_of h) × (itself ≡ true → steps_of f ≡ steps_of g) }
+    ensures { decided_of result ≡ record_on (claim_over claim (curve_from (steps_of f.entry)) (curve_from (steps_of g.entry)) (curve_from (steps_of h.entry))) }
 {
-    let Horizon::At(horizon) = horizon_over(claim, f, left, g, right, h) else {
+    let Some(horizon) = horizon_over(claim, f, g, h.form) else {
         return untried();
     };
-    let near = horizon.0 as usize;
-    in_order(claim, itself, f, left, g, right, h, claimed, near, work)
+    in_order(claim, itself, f, g, h, horizon.0 as usize, work)
 }
 
-// Of any claim. Here curves have no numbers, so that none is said to be the same as another.
-pub fn verdict_on(claim: Claim, f: Curve, g: Curve, h: Curve) -> Judged
-    ensures { judged_of result ≡ judgement (claim_of claim f g h) }
+// Of any claim. One that breaks a limit has no verdict. Here curves have no numbers, so that none is said to be the same
+// as another.
+pub fn verdict_on(claim: Claim, f: &Curve, g: &Curve, h: &Curve) -> Result<Decided, IllFormed>
+    ensures { judged_of result ≡ judgement (claim_of claim f.now g.now h.now) }
 {
     if !well_formed_claim(claim, f, g, h) {
-        return Judged::IllFormed;
+        return Err(IllFormed);
     }
-    let mut work = [0u32; WORK];
-    Judged::Decided(verdict_over(
-        claim, false, f.form, &f.rises, g.form, &g.rises, h.form, &h.rises, &mut work,
-    ))
+    let mut work = Work::new();
+    Ok(verdict_over(claim, false, f.held(), g.held(), h.held(), &mut work))
 }
 
 // A record in which all between the code and the ticks tried is 0.
-fn code_only(code: u8, tried: Ticks) -> Record
-    ensures { numbers_of result ≡ record { code = code; tick = 0; left = 0; right = 0; tried = tried.0 } }
+fn code_only(code: Code, tried: Ticks) -> Record
+    ensures { result ≡ record { code = code; tick = record { 0 = 0 }; left = record { 0 = 0 }; right = record { 0 = 0 }; tried = tried } }
 {
     Record {
         code,
@@ -207,22 +191,23 @@ fn code_only(code: u8, tried: Ticks) -> Record
     }
 }
 
-pub fn record_of(decided: Decided) -> Record
-    ensures { numbers_of result ≡ decided_of decided }
-{
-    let verdict = decided.verdict;
-    let tried = decided.tried;
-    match verdict {
-        Verdict::Accepted => code_only(1, tried),
-        Verdict::RefutedAt { tick, left, right } => Record {
-            code: 2,
-            tick,
-            left,
-            right,
-            tried,
-        },
-        Verdict::RefutedByRate => code_only(3, tried),
-        Verdict::NotLeast => code_only(4, tried),
-        Verdict::NotJudged => code_only(5, tried),
+impl From<Decided> for Record {
+    ghost from_gives = { λ decided given. numbers_of given ≡ decided_of decided };
+
+    fn from(decided: Decided) -> Record {
+        let tried = decided.tried;
+        match decided.verdict {
+            Verdict::Accepted => code_only(Code::Accepted, tried),
+            Verdict::RefutedAt(Break { tick, left, right }) => Record {
+                code: Code::RefutedAt,
+                tick,
+                left,
+                right,
+                tried,
+            },
+            Verdict::RefutedByRate => code_only(Code::RefutedByRate, tried),
+            Verdict::NotLeast => code_only(Code::NotLeast, tried),
+            Verdict::NotJudged => code_only(Code::NotJudged, tried),
+        }
     }
 }
