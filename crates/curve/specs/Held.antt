@@ -1,7 +1,7 @@
 -- The curve that the code's values stand for.
 --
---     held_as, steps_of, steps_in  numbers and an array of rises as a form; those that are lent; those of a working copy
---     curve_of                     their curve. What stands in the array from T+d on counts for nothing (form_same)
+--     held_as, steps_of, steps_in  numbers and an array of rises as a form; those of a curve as it is lent; of a struct
+--     curve_of                     its curve. What stands in the array from T+d on counts for nothing (form_same)
 --     rates_of                     a curve of a form's numbers that lists nothing: rates depend on no value
 --     held_over, form_over         a curve with its rises in the place of its values, and its other numbers
 --     padded, holding              a list in the working array (padded-listed: F(0) to F(k-1)), and a curve in the

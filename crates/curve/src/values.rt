@@ -37,16 +37,14 @@ pub(crate) fn turn_by(form: Form, tick: Ticks) -> Turned
     let t = form.rank.0;
     let d = form.period.0;
     let n = tick.0;
-    if (n as u64) < t as u64 + d as u64 {
-        return Turned { place: n, turns: 0 };
-    }
-    if d == 0 {
+    if d == 0 || (n as u64) < t as u64 + d as u64 {
         return Turned { place: n, turns: 0 };
     }
     let since = n - t;
-    let place = t + since % d;
-    let turns = since / d;
-    Turned { place, turns }
+    Turned {
+        place: t + since % d,
+        turns: since / d,
+    }
 }
 
 impl Held<'_> {

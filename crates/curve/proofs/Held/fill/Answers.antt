@@ -1,12 +1,12 @@
-use Prim.Native.Nat.{ℕ, suc, ◌+◌, ◌-◌, ◌≤◌, min}
+use Prim.Native.Nat.{ℕ, suc, ◌+◌, ◌-◌, min}
 use mathlib.Core.Path.{◌≡◌, refl, sym, ap, ap₂, ◌∙◌}
 use native.Mathlib.Omega.{arith}
 use native.Mathlib.Numerals.{add-one}
 use lib.ListN.{length}
-use Rattle.curve.specs.Filled.{over, over_none, over-more, over-length}
+use Rattle.curve.specs.Filled.{over, over_none, over-more}
 use Rattle.curve.specs.Steps.{Steps, largest, place_at, rise_in, stepped}
 use Rattle.curve.specs.Stepped.{stepped-next, place_most, after_in, after_last_lem}
-use Rattle.curve.specs.Table.{cell, table_over, table_length}
+use Rattle.curve.specs.Table.{cell, table_over}
 use Rattle.curve.proofs.Held.fill.Invariants.{summed}
 use Rattle.curve.proofs.Held.fill.Goals as goal
 use Rattle.curve.proofs.Held.fill.Goals.{else-count-place, then-count-place}
@@ -14,13 +14,6 @@ use Rattle.curve.proofs.Held.fill.Goals.{else-count-place, then-count-place}
 pub loop-n-init : goal.loop-n-init
 unfolding place_at stepped
 loop-n-init c = ((omega arith, omega arith), (refl, omega arith, omega arith), sym (over_none _ _))
-
-pub bounds-out-n : goal.bounds-out-n
-bounds-out-n c =
-    let t = c.loop-n in
-    let s = c.args.out.now in
-    let within : t.n ≤ length s = omega arith in
-    rw (t.invariant.2, over-length _ t.n s within) (omega arith)
 
 pub overflow_add-place : goal.overflow_add-place
 overflow_add-place c =
@@ -60,6 +53,3 @@ returns c =
     let all : t.n ≡ min (length out) 4097 = omega arith in
     t.invariant.2
     ∙ ap₂ (λ (d k : ℕ). over (cell (stepped (summed T d a.self.form.first a.self.rises.now))) k out) e all
-
-pub shape_of-out : goal.shape_of-out
-shape_of-out c = ap length (returns c) ∙ table_length _ _

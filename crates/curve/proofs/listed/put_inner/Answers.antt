@@ -4,7 +4,7 @@ use mathlib.Core.List.{List}
 use native.Mathlib.Omega.{arith}
 use native.Mathlib.Numerals.{add-one}
 use lib.ListN.{get_or, length-set}
-use Rattle.curve.specs.Filled.{over, over_none, over-more, over_past}
+use Rattle.curve.specs.Filled.{over_none, over-more, over_past}
 use Rattle.curve.specs.Rises.{rise, rise_within}
 use Rattle.curve.proofs.listed.put_inner.Goals as goal
 
@@ -23,13 +23,3 @@ loop-n-preserved c =
       simp length-set t.invariant.0,
       rw (stored, t.invariant.1) (over-more (rise_within l) t.n l (omega arith)),
     )
-
-pub shape_of-values : goal.shape_of-values
-shape_of-values c = c.loop-n.invariant.0
-
-pub returns : goal.returns
-returns c =
-    let t = c.loop-n in
-    let l = c.args.values.now in
-    let all : t.n ≡ c.args.count = omega arith in
-    t.invariant.1 ∙ ap (λ (k : ℕ). over (rise_within l) k l) all

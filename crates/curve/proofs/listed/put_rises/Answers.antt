@@ -22,10 +22,6 @@ returns-then-held-eq0 c =
     let F : ℕ → ℕ = rise_of (record { rank = a.rank.0; period = a.period.0; increment = a.increment; listed = l }) in
     sym (over_none F l) ∙ ap (λ (k : ℕ). over F k l) none
 
-pub put_inner-requires : goal.put_inner-requires
-put_inner-requires c =
-    omega arith
-
 pub bounds-values-last : goal.bounds-values-last
 bounds-values-last c =
     let a = c.args in

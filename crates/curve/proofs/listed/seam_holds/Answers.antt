@@ -14,6 +14,3 @@ returns-then-count-eq0 c =
     let e : T + d - 1 ≡ T = omega arith in
     let level : get_or l (T + d - 1) 0 ≤ get_or l T 0 + a.increment = omega (arith, ap (λ (n : ℕ). get_or l n 0) e) in
     sym (le-leb _ _ level)
-
-pub returns : goal.returns
-returns c = rw (c.number_at-last.ensures, c.number_at.ensures)
