@@ -4,6 +4,7 @@ use content::{Refusal, Stated, Statement};
 use curve::{Claim, Curve, Deviation, Operation};
 use field::State;
 use field::places::claim_at;
+use std::iter;
 
 // Curves and claims with the place at which they begin.
 #[derive(Clone, Copy)]
@@ -18,16 +19,13 @@ pub(crate) const MOST_FIELDS: usize = State::MAX_CURVES + State::MAX_CLAIMS + 2;
 
 // The end stands also for every field past it.
 pub(crate) fn field_by(book: &Book, n: usize) -> Field {
-    let Some(n) = n.checked_sub(1) else {
-        return Field::Version;
-    };
-    if let Some(place) = book.places.curves.iter().take(book.curves).nth(n) {
-        return Field::Curve(*place as usize);
-    }
-    match book.places.claims.iter().take(book.claims).nth(n.saturating_sub(book.curves)) {
-        Some(place) => Field::Claim(*place as usize),
-        None => Field::End,
-    }
+    let curves = book.places.curves.iter().take(book.curves);
+    let claims = book.places.claims.iter().take(book.claims);
+    iter::once(Field::Version)
+        .chain(curves.map(|place| Field::Curve(*place as usize)))
+        .chain(claims.map(|place| Field::Claim(*place as usize)))
+        .nth(n)
+        .unwrap_or(Field::End)
 }
 
 // A curve's values at the first 256 ticks.
@@ -56,6 +54,11 @@ fn in_numbers(stated: Stated) -> Statement {
 }
 
 // The claim at a place of a book of so many curves.
-pub(crate) fn statement_at(bytes: &[u8], place: usize, curves: usize) -> Result<Statement, Refusal> {
-    Ok(in_numbers(claim_at(bytes, place, curves)?))
+pub(crate) fn statement_at(
+    bytes: &[u8],
+    place: usize,
+    curves: usize,
+) -> Result<Statement, Refusal> {
+    let stated = claim_at(bytes, place, curves)?;
+    Ok(in_numbers(stated))
 }

@@ -1,71 +1,59 @@
 // A book's curves and claims, written again.
 use crate::fields::{Field, MOST_FIELDS, field_by, first_values, statement_at};
 use book::Book;
-use content::{Checked, Refusal};
+use content::{Listed, Refusal};
 use curve::Curve;
 use field::places::curve_at;
-use writer::calls::{add_claim, add_curve, begin, close};
-use writer::{Called, Writer};
+use writer::Writer;
 
-// The bytes of a closed book, or the call that was refused.
+// The call that was refused, by the number of its field.
 #[derive(Clone, Copy)]
-pub(crate) enum Writing {
-    Closed(usize),
-    Refused(usize, Refusal),
+pub(crate) struct Stopped {
+    pub(crate) call: usize,
+    pub(crate) refusal: Refusal,
 }
 
-// The first T+d values. A sound curve has no more than there are.
-fn listed(values: &[u32], rank: u32, period: u32) -> &[u32] {
-    let count = rank as usize + period as usize;
-    if count <= values.len() {
-        &values[..count]
-    } else {
-        values
-    }
-}
-
-fn again_curve(writer: Writer, out: &mut [u8], f: Curve) -> Called {
+fn add_curve(writer: &mut Writer, out: &mut [u8], f: &Curve) -> Result<(), Refusal> {
+    let values = first_values(f);
     let rank = f.form.rank.0;
     let period = f.form.period.0;
-    let increment = f.form.increment;
-    let values = first_values(f);
-    add_curve(
-        writer,
+    // A sound curve has no more values than there are.
+    let count = rank as usize + period as usize;
+    writer.add_curve(
         out,
-        rank as u64,
-        period as u64,
-        increment as u64,
-        listed(&values, rank, period),
+        Listed {
+            rank: rank as u64,
+            period: period as u64,
+            increment: f.form.increment as u64,
+            values: values.get(..count).unwrap_or(&values),
+        },
     )
 }
 
-fn call(bytes: &[u8], book: Book, n: usize, writer: Writer, out: &mut [u8]) -> Called {
+fn add_field(
+    writer: &mut Writer,
+    bytes: &[u8],
+    book: &Book,
+    n: usize,
+    out: &mut [u8],
+) -> Result<(), Refusal> {
     match field_by(book, n) {
-        Field::Version => begin(writer, out),
-        Field::Curve(place) => again_curve(writer, out, curve_at(bytes, place)),
-        Field::Claim(place) => {
-            let c = statement_at(bytes, place, book.curves);
-            add_claim(writer, out, c.kind, c.left, c.right, c.third)
-        }
-        Field::End => close(writer, out),
+        Field::Version => writer.begin(out),
+        Field::Curve(place) => add_curve(writer, out, &curve_at(bytes, place)),
+        Field::Claim(place) => writer.add_claim(out, statement_at(bytes, place, book.curves)?),
+        Field::End => writer.close(out),
     }
 }
 
-pub(crate) fn write(bytes: &[u8], book: Book, out: &mut [u8]) -> Writing {
+// How many bytes the closed book has.
+pub(crate) fn write(bytes: &[u8], book: &Book, out: &mut [u8]) -> Result<usize, Stopped> {
     let mut writer = Writer::new();
-    let mut n: usize = 0;
-    while n < MOST_FIELDS {
+    for call in 0..MOST_FIELDS {
         if writer.closed {
             break;
         }
-        let called = call(bytes, book, n, writer, out);
-        let checked = called.checked;
-        if let Checked::Refused(refusal) = checked {
-            return Writing::Refused(n, refusal);
-        }
-        writer = called.writer;
-        n += 1;
+        let added = add_field(&mut writer, bytes, book, call, out);
+        added.map_err(|refusal| Stopped { call, refusal })?;
     }
-    let state = writer.state;
-    Writing::Closed(state.place)
+    Ok(writer.state.place)
 }
