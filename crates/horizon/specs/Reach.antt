@@ -14,7 +14,7 @@
 --     horizon_numbers                      of the claimed curve the horizon asks the numbers alone
 --     horizon_answer                       the answer: no horizon for a claim that is not well formed (horizon_none),
 --                                          else its horizon as far as there is one (horizon_some)
-use Rattle.std.specs.Prelude.{ℕ, suc, ◌+◌, ◌-◌, ◌*◌, ◌≤◌, ◌<◌, min, max, ◌≡◌, refl, Bool, true, false, List, Option, Result, Ok, Err}
+use Rattle.std.specs.Prelude.{ℕ, suc, ◌+◌, ◌-◌, ◌*◌, ◌≤◌, ◌<◌, max, ◌≡◌, refl, Bool, true, false, List, Option, Result, Ok, Err}
 use Rattle.std.proofs.Common.{sym, ap, ◌∙◌, arith, mul-le-mul, le_of_lt}
 use Rattle.std.proofs.Math.Nat.{max_comm}
 use Rattle.minplus.specs.Curve as C

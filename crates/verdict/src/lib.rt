@@ -54,6 +54,7 @@ impl TryFrom<u8> for Code {
 
     ghost try_from_gives = { λ number given. given ≡ code_by number };
 
+    #[tactic(auto, unfolding(crate::specs::Codes::code_by))]
     fn try_from(number: u8) -> Result<Code, UnknownCode> {
         match number {
             1 => Ok(Code::Accepted),
@@ -101,9 +102,11 @@ fn first_break(
     ensures { result ≡ break_of (claim_over claim (curve_from (steps_of f.entry)) (curve_from (steps_of g.entry)) (curve_from (steps_of h.entry))) }
 {
     match claim {
-        Claim::Equals(Operation::Sum) => first_unlike(|a, b| a + b, f, g, h, horizon + 1),
-        Claim::Equals(Operation::Minimum) => first_unlike(u64::min, f, g, h, horizon + 1),
-        Claim::Equals(Operation::Convolution) => first_apart(itself, f, g, h, horizon + 1, work),
+        Claim::Equals(operation) => match operation {
+            Operation::Sum => first_unlike(|a, b| a + b, f, g, h, horizon + 1),
+            Operation::Minimum => first_unlike(u64::min, f, g, h, horizon + 1),
+            Operation::Convolution => first_apart(itself, f, g, h, horizon + 1, work),
+        },
         Claim::AtMost(deviation) | Claim::Exactly(deviation) => {
             first_over(deviation, f, g, horizon)
         }
@@ -112,14 +115,18 @@ fn first_break(
 
 // The codes after the first break, in their order, of a claim that no tried tick breaks, whatever is claimed of its two
 // curves.
+#[tactic(auto, unfolding(minplus::specs::Verdict::codes_in_order, minplus::specs::Verdict::by_rate, minplus::specs::Verdict::less_holds))]
 fn later_code(claim: Claim, f: Held, g: Held, horizon: usize) -> Verdict
     requires { LaterAsked claim (steps_of f) (steps_of g) horizon }
     ensures { IsLater (verdict_of result) claim (curve_from (steps_of f.entry)) (curve_from (steps_of g.entry)) }
 {
     match claim {
-        Claim::AtMost(_) | Claim::Exactly(_) if slower(g.form, f.form) => Verdict::RefutedByRate,
+        Claim::Equals(_) => Verdict::Accepted,
+        Claim::AtMost(_) if slower(g.form, f.form) => Verdict::RefutedByRate,
+        Claim::AtMost(_) => Verdict::Accepted,
+        Claim::Exactly(_) if slower(g.form, f.form) => Verdict::RefutedByRate,
         Claim::Exactly(deviation) if less_holds(deviation, f, g, horizon) => Verdict::NotLeast,
-        _ => Verdict::Accepted,
+        Claim::Exactly(_) => Verdict::Accepted,
     }
 }
 
@@ -194,6 +201,7 @@ fn code_only(code: Code, tried: Ticks) -> Record
 impl From<Decided> for Record {
     ghost from_gives = { λ decided given. numbers_of given ≡ decided_of decided };
 
+    #[tactic(auto, unfolding(minplus::specs::Verdict::record_with))]
     fn from(decided: Decided) -> Record {
         let tried = decided.tried;
         match decided.verdict {

@@ -1,5 +1,5 @@
-use Prim.Native.Nat.{ℕ, suc, ◌+◌, ◌-◌, ◌*◌, ◌≤◌, ◌<◌}
-use mathlib.Core.Path.{◌≡◌, refl, sym, ap, ap₂, ◌∙◌}
+use Prim.Native.Nat.{ℕ, ◌+◌, ◌-◌, ◌*◌, ◌≤◌, ◌<◌}
+use mathlib.Core.Path.{◌≡◌, sym, ap, ap₂, ◌∙◌}
 use native.Mathlib.Omega.{arith}
 use native.Mathlib.Nat.{mul-le-mul}
 use Rattle.minplus.specs.Search.{best, best-next}
@@ -9,7 +9,7 @@ use Rattle.curve.specs.declared.walks.Walk.{Walk}
 use Rattle.curve.specs.Steps.{Steps, curve_from}
 use Rattle.curve.specs.Held.{steps_of}
 use Rattle.curve.specs.Walks.{next_walk, walk_at, walk_by, walk_able, walk_begins, walk_next}
-use Rattle.horizon.specs.Reach.{Extent, Raisable, large, raisable}
+use Rattle.horizon.specs.Reach.{Extent, Raisable, raisable}
 use Rattle.horizon.proofs.crossing.extreme.Goals as goal
 
 -- where the walk begins, and a turn of it
