@@ -173,8 +173,8 @@ pub fn verdict_over(
     in_order(claim, itself, f, g, h, horizon.0 as usize, work)
 }
 
-// Of any claim. One that breaks a limit has no verdict. Here curves have no numbers, so that none is said to be the same
-// as another.
+// Of any claim. One that breaks a limit has no verdict. Here curves have no numbers, so that none is said to be the
+// same as another.
 pub fn verdict_on(claim: Claim, f: &Curve, g: &Curve, h: &Curve) -> Result<Decided, IllFormed>
     ensures { judged_of result ≡ judgement (claim_of claim f.now g.now h.now) }
 {
