@@ -9,7 +9,7 @@
 --                                     book (stands_over)
 --     claim_well, claim_read_lem      then it is well formed, and it is what is read there
 --     stands_array, claim_array       all the same where the places stand in an array
-use Rattle.std.specs.Prelude.{ℕ, ◌≤◌, ◌<◌, ◌≡◌, refl, List, Bool, true, false, length, get_or, eqb}
+use Rattle.std.specs.Prelude.{ℕ, ◌≤◌, ◌<◌, ◌≡◌, refl, List, Bool, true, false, length, get_or, eqb, Result, Ok, Err}
 use Rattle.std.proofs.Math.Path.{sym, ap}
 use Rattle.std.proofs.Common.{subst, ◌∙◌, arith, eqb-true}
 use Rattle.std.proofs.Math.Option.{Option, none, some}
@@ -25,13 +25,10 @@ use Rattle.curve.specs.declared.Claim.TheVariants.{Equals, AtMost, Exactly}
 use Rattle.numbers.specs.Lists.{forall_at}
 use Rattle.content.specs.declared.Stated.{Stated}
 use Rattle.content.specs.declared.Refusal.TheVariants.{WrongClaim}
-use Rattle.content.specs.declared.Checked.{Checked}
-use Rattle.content.specs.declared.Checked.TheVariants as checked
-use Rattle.content.specs.declared.ClaimField.{ClaimField}
-use Rattle.content.specs.declared.ClaimField.TheVariants as claim-field
+use Rattle.content.specs.declared.Refusal.{Refusal}
 use Rattle.content.specs.Layout.{kind_in, claim_in, claim_length}
 use Rattle.field.specs.Fields.{content_at}
-use Rattle.content.specs.Refusals.{kind_fault, stated_of, stated_or, stated, statement_field, claim_field, claim_odd, claim_whole}
+use Rattle.content.specs.Refusals.{Checked, kind_fault, stated_of, stated_or, stated, statement_field, claim_field, claim_odd, claim_whole}
 use Rattle.field.specs.Steps.{max_curves}
 use Rattle.content.specs.Sound.{Stands, claim_stands}
 use Rattle.book.specs.Reading.{Contents}
@@ -43,9 +40,9 @@ claim_on s places st =
     claim_over st.claim (curve_named s places st.left) (curve_named s places st.right) (curve_named s places st.claimed)
 
 -- a sound book has no field that states none (stands_over)
-unfoldable pub claim_for : List ℕ → List ℕ → ClaimField → Option M.Claim
-claim_for s places (claim-field.Stated st) = some (claim_on s places st)
-claim_for s places (claim-field.Refused x) = none
+unfoldable pub claim_for : List ℕ → List ℕ → Result Stated Refusal → Option M.Claim
+claim_for s places (Ok st) = some (claim_on s places st)
+claim_for s places (Err x) = none
 
 unfoldable pub claim_read : List ℕ → List ℕ → ℕ → ℕ → Option M.Claim
 unfolding claim_for claim_field
@@ -70,21 +67,21 @@ pub record StandsOver (s places : List ℕ) (curves p : ℕ) : Type 0 where
 -- ---- laws
 
 -- what a field states is what its bytes say of its kind
-pub stated_kind : (curves : ℕ) (content : List ℕ) (st : Stated) → claim_field curves content ≡ claim-field.Stated st
+pub stated_kind : (curves : ℕ) (content : List ℕ) (st : Stated) → claim_field curves content ≡ Ok st
     → (κ : M.Kind) × (kind_in content ≡ some κ) × (st ≡ stated_of κ (claim_in content))
 unfolding statement_field
 stated_kind curves content st e = by_length (eqb (length content) (claim_length (claim_in content).kind)) refl
   where
-    sound : (κ : M.Kind) (y : Checked) → stated_or y (stated_of κ (claim_in content)) ≡ claim-field.Stated st → st ≡ stated_of κ (claim_in content)
-    sound κ (checked.Refused x) e = cc
-    sound κ checked.Sound e = cc
+    sound : (κ : M.Kind) (y : Checked) → stated_or y (stated_of κ (claim_in content)) ≡ Ok st → st ≡ stated_of κ (claim_in content)
+    sound κ (Err x) e = cc
+    sound κ (Ok t) e = cc
 
-    by_kind : (κ : Option M.Kind) → kind_in content ≡ κ → stated κ curves (claim_in content) ≡ claim-field.Stated st
+    by_kind : (κ : Option M.Kind) → kind_in content ≡ κ → stated κ curves (claim_in content) ≡ Ok st
         → (κ : M.Kind) × (kind_in content ≡ some κ) × (st ≡ stated_of κ (claim_in content))
     by_kind none is e = let z : ◌≡◌ {A = ℕ} 0 1 = cc in absurd (omega (arith, z))
     by_kind (some κ) is e = (κ, is, sound κ (kind_fault κ curves (claim_in content)) e)
 
-    refused_not : claim-field.Refused WrongClaim ≡ claim-field.Stated st → ⊥
+    refused_not : ◌≡◌ {A = Result Stated Refusal} (Err WrongClaim) (Ok st) → ⊥
     refused_not e = let z : ◌≡◌ {A = ℕ} 0 1 = cc in omega (arith, z)
 
     by_length : (b : Bool) → eqb (length content) (claim_length (claim_in content).kind) ≡ b → (κ : M.Kind) × (kind_in content ≡ some κ) × (st ≡ stated_of κ (claim_in content))

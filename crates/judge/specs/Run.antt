@@ -9,11 +9,13 @@
 --                          its code
 --     admitted s room      what a book is to a buffer of so many bytes: sound, or refused for itself or for want of
 --                          room (admitted_on); Room: there is enough
+--     outcome_of s b       the totals, or the refusal with its place, by outcome_on
 --     answer_of s b        the answer, by answer_on: refused_word, or the totals (totals_on)
 --     buffer_of s b        the lent buffer afterwards, by buffer_on
+--     answer_word          the answer is the outcome in one number, by word_of
 --     run_refused, run_short, run_sound     both, by what the book is and whether the buffer has room
-use Rattle.std.specs.Prelude.{ℕ, ◌*◌, ◌≤◌, ◌<◌, ◌≡◌, true, false, List, length, get_or, ltb}
-use Rattle.std.proofs.Math.Path.{sym, ap}
+use Rattle.std.specs.Prelude.{ℕ, ◌*◌, ◌≤◌, ◌<◌, ◌≡◌, true, false, List, length, get_or, ltb, Result, Ok, Err}
+use Rattle.std.proofs.Math.Path.{refl, sym, ap}
 use Rattle.std.proofs.Common.{◌∙◌}
 use Rattle.std.proofs.Math.Option.{Option}
 use borrow.Author.Tests.{lt-ltb, le-ltb}
@@ -24,6 +26,7 @@ use Rattle.content.specs.declared.Refusal.{Refusal}
 use Rattle.content.specs.declared.Refusal.TheVariants.{NoRoom}
 use Rattle.content.specs.Refusals.{number_of}
 use Rattle.book.specs.Reading.{Contents, Read, sound, refused, read_book}
+use Rattle.field.specs.declared.Refused.{Refused}
 use Rattle.judge.specs.declared.Totals.{Totals}
 use Rattle.judge.specs.Claims.{claim_read, record_for, verdict_for}
 use Rattle.judge.specs.Answer.{answer_with, record_size}
@@ -71,6 +74,19 @@ unfolding put records_to claim_at record_for
 buffer_on s b (refused x p) = b
 buffer_on s b (sound c) = put b 0 (records_to (record_at s c) (length c.claims))
 
+unfoldable pub outcome_on : List ℕ → Read → Result Totals Refused
+unfolding totals_on
+outcome_on s (refused x p) = Err (record { refusal = x; place = p })
+outcome_on s (sound c) = Ok (totals_on s (sound c))
+
+abbrev pub word_of : Result Totals Refused → ℕ
+word_of (Ok t) = totals_word t
+word_of (Err r) = refused_word r.refusal r.place
+
+unfoldable pub outcome_of : List ℕ → List ℕ → Result Totals Refused
+unfolding outcome_on admitted
+outcome_of s b = outcome_on s (admitted s (length b))
+
 unfoldable pub answer_of : List ℕ → List ℕ → ℕ
 unfolding answer_on admitted
 answer_of s b = answer_on s (admitted s (length b))
@@ -81,22 +97,40 @@ buffer_of s b = buffer_on s b (admitted s (length b))
 
 -- ---- laws
 
+pub answer_word : (s b : List ℕ) → answer_of s b ≡ word_of (outcome_of s b)
+unfolding answer_of outcome_of
+answer_word s b = go (admitted s (length b))
+  where
+    go : (r : Read) → answer_on s r ≡ word_of (outcome_on s r)
+    go (refused x p) = refl
+    go (sound c) = refl
+
 -- a buffer with room for the records of a sound book, and one without
 abbrev pub Room : List ℕ → Contents → Type 0
 Room b c = record_size * length c.claims ≤ length b
 
 module _ (s b : List ℕ) where
-  pub run_refused : (x : Refusal) (p : ℕ) → read_book s ≡ refused x p → (answer_of s b ≡ refused_word x p) × (buffer_of s b ≡ b)
-  unfolding answer_of buffer_of
-  run_refused x p e = let so : admitted s (length b) ≡ refused x p = rw e in (ap (answer_on s) so, ap (buffer_on s b) so)
+  pub run_refused : (x : Refusal) (p : ℕ) → read_book s ≡ refused x p
+      → (answer_of s b ≡ refused_word x p) × (buffer_of s b ≡ b) × (outcome_of s b ≡ Err (record { refusal = x; place = p }))
+  unfolding answer_of buffer_of outcome_of
+  run_refused x p e =
+      let so : admitted s (length b) ≡ refused x p = rw e in
+      (ap (answer_on s) so, ap (buffer_on s b) so, ap (outcome_on s) so)
 
   module _ (c : Contents) (e : read_book s ≡ sound c) where
-    pub run_short : length b < record_size * length c.claims → (answer_of s b ≡ refused_word NoRoom 0) × (buffer_of s b ≡ b)
-    unfolding answer_of buffer_of
-    run_short short = let so : admitted s (length b) ≡ refused NoRoom 0 = rw (e, lt-ltb _ _ short, admitted_on) in (ap (answer_on s) so, ap (buffer_on s b) so)
+    pub run_short : length b < record_size * length c.claims
+        → (answer_of s b ≡ refused_word NoRoom 0) × (buffer_of s b ≡ b) × (outcome_of s b ≡ Err (record { refusal = NoRoom; place = 0 }))
+    unfolding answer_of buffer_of outcome_of
+    run_short short =
+        let so : admitted s (length b) ≡ refused NoRoom 0 = rw (e, lt-ltb _ _ short, admitted_on) in
+        (ap (answer_on s) so, ap (buffer_on s b) so, ap (outcome_on s) so)
 
-    pub run_sound : Room b c → (answer_of s b ≡ totals_word (totals_on s (read_book s))) × (buffer_of s b ≡ buffer_on s b (read_book s))
-    unfolding answer_of buffer_of
+    pub run_sound : Room b c
+        → (answer_of s b ≡ totals_word (totals_on s (read_book s))) × (buffer_of s b ≡ buffer_on s b (read_book s)) × (outcome_of s b ≡ Ok (totals_on s (read_book s)))
+    unfolding answer_of buffer_of outcome_of
     run_sound room =
-        let so : admitted s (length b) ≡ sound c = rw (e, le-ltb _ _ room, admitted_on) in
-        (ap (answer_on s) so ∙ sym (ap (λ (r : Read). totals_word (totals_on s r)) e), ap (buffer_on s b) so ∙ sym (ap (buffer_on s b) e))
+        let so : admitted s (length b) ≡ read_book s = rw (e, le-ltb _ _ room, admitted_on) in (
+          ap (answer_on s) so ∙ ap (answer_on s) e ∙ sym (ap (λ (r : Read). totals_word (totals_on s r)) e),
+          ap (buffer_on s b) so,
+          ap (outcome_on s) so ∙ ap (outcome_on s) e ∙ sym (ap (λ (r : Read). Ok (totals_on s r)) e),
+        )

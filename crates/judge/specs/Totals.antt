@@ -9,6 +9,7 @@
 --     totals_word             as an answer
 --     totals_add_up           of the records on claims they add up
 --     count_all               all are such exactly when as many are
+--     code_of                 the code of a verdict's record, whatever the ticks tried (code_with)
 --     each_code               one record of each code: one accepted, three refuted, one not judged, as an answer
 use Rattle.std.specs.Prelude.{ℕ, zero, suc, ◌+◌, ◌*◌, ◌^◌, ◌≤◌, ◌<◌, ◌≡◌, refl, ◌↔◌, Bool, true, false, ◌||◌, eqb}
 use Rattle.std.proofs.Math.Option.{Option, none, some}
@@ -57,6 +58,9 @@ counted t code = record {
   unjudged = more (is_unjudged code) t.unjudged;
 }
 
+abbrev pub code_of : Verdict → ℕ
+code_of v = (record_with v 0).code
+
 -- of no more claims than a book may have
 pub record Countable (t : Totals) : Type 0 where
   pub few : together t ≤ max_claims
@@ -66,6 +70,14 @@ pub record Countable (t : Totals) : Type 0 where
 pub totals_more : (codes : ℕ → ℕ) (n : ℕ) → counted (totals_to codes n) (codes n) ≡ totals_to codes (n + 1)
 unfolding counted totals_to
 totals_more codes n = rw (add-one n)
+
+pub code_with : (v : Verdict) (n : ℕ) → (record_with v n).code ≡ code_of v
+unfolding record_with
+code_with accepted n = refl
+code_with (refuted_at tick left right) n = refl
+code_with refuted_by_rate n = refl
+code_with not_least n = refl
+code_with not_judged n = refl
 
 pub totals_add_up : (f : ℕ → Option Claim) (n : ℕ) → together (totals_to (λ k. (record_for (f k)).code) n) ≡ n
 unfolding totals_to record_for

@@ -3,18 +3,17 @@
 #![tactic(auto)]
 
 ghost use Rattle.std.specs.Prelude.{◌≡◌};
-ghost use Rattle.judge.specs.Run.{answer_of, buffer_of};
+ghost use Rattle.judge.specs.Run.{answer_of, buffer_of, outcome_of};
 
-use book::Outcome;
 use book::whole::read;
 use content::Refusal;
+use field::Refused;
 
 mod answers;
 mod claims;
 mod curves;
 mod records;
 
-use crate::answers::{refused, totals_word};
 use crate::records::run;
 
 // How many claims were decided so.
@@ -28,6 +27,28 @@ pub struct Totals {
 impl Totals {
     // A record's bytes: code, tick (4), left value (8), right value (8), ticks tried (2).
     pub const RECORD: usize = 23;
+
+    // The bit of an answer at which each total begins.
+    pub const ACCEPTED_AT: u32 = 24;
+
+    pub const REFUTED_AT: u32 = 36;
+
+    pub const UNJUDGED_AT: u32 = 48;
+}
+
+// A refused book, or a buffer that has no room, leaves the buffer as it was.
+fn judged(book: &[u8], verdicts: &mut [u8]) -> Result<Totals, Refused>
+    ensures value { result ≡ outcome_of book.now verdicts.old }
+    ensures verdicts_after { verdicts.new ≡ buffer_of book.now verdicts.old }
+{
+    let sound = read(book)?;
+    if verdicts.len() < Totals::RECORD * sound.claims {
+        return Err(Refused {
+            refusal: Refusal::NoRoom,
+            place: 0,
+        });
+    }
+    Ok(run(book, &sound, verdicts))
 }
 
 // The answer is the refusal's number + 2^8 * its place, or else 2^24 * accepted + 2^36 * refuted + 2^48 * not judged. A
@@ -36,15 +57,8 @@ pub fn judge(book: &[u8], verdicts: &mut [u8]) -> u64
     ensures value { result ≡ answer_of book.now verdicts.old }
     ensures verdicts_after { verdicts.new ≡ buffer_of book.now verdicts.old }
 {
-    let reading = read(book);
-    let outcome = reading.outcome;
-    let sound = reading.book;
-    if let Outcome::Refused(refusal, place) = outcome {
-        return refused(refusal, place);
+    match judged(book, verdicts) {
+        Ok(totals) => totals.word(),
+        Err(refused) => refused.word(),
     }
-    let claims = sound.claims;
-    if verdicts.len() < Totals::RECORD * claims {
-        return refused(Refusal::NoRoom, 0);
-    }
-    totals_word(run(book, sound, verdicts))
 }

@@ -3,17 +3,24 @@
 --     part w n            words and the number after them; last_part: and the end of the line
 --     claim_line, total_line, certified_line, refused_line     the lines; claim_lines: those of the first claims
 --     verdict_words       a claim's line after `claim K`, by its record's numbers; words_in: by its record; refuted_at:
---                         code 2 (words_refuted)
+--                         code 2
+--     words_of            the same by the code's enum (words_by, words_read)
 --     report_of           the whole text
 --     report_in           the same where the lent bytes have room for it, else nothing
 --     max_line, max_words     the length of the longest line, and of the longest verdict_words
---     TotalsFit           what the totals of an answer can be
+--     totals_in           the totals of an answer; TotalsFit: what they can be
 --     refuted_short, total_short     how many digits the numbers of a line can have
 --     report_short, report_refused, report_judged     report_in, by its tests
-use Rattle.std.specs.Prelude.{ℕ, zero, suc, ◌+◌, ◌*◌, ◌^◌, ◌≤◌, ◌<◌, ◌≡◌, refl, cond, List, [], ◌++◌, length, ltb, eqb}
+use Rattle.std.specs.Prelude.{ℕ, zero, suc, ◌+◌, ◌*◌, ◌^◌, ◌≤◌, ◌<◌, ◌≡◌, refl, cond, Bool, true, false, List, [], ◌++◌, length, ltb, eqb, Result, Ok, Err}
+use Rattle.std.specs.Result.{result_unwrap_or}
+use Rattle.verdict.specs.declared.Code.{Code}
+use Rattle.verdict.specs.declared.Code.TheVariants as code
+use Rattle.verdict.specs.declared.UnknownCode.{UnknownCode}
+use Rattle.verdict.specs.Codes.{code_by}
 use Prim.Native.String.{String}
-use Rattle.std.proofs.Common.{arith}
+use Rattle.std.proofs.Common.{sym, ap, ◌∙◌, arith}
 use borrow.Author.Tests.{lt-ltb, le-ltb, eq-eqb, ne_eqb}
+use Rattle.judge.specs.declared.Totals.{Totals}
 use Rattle.judge.specs.Answer.{refusal_in, place_in, accepted_in, refuted_in, unjudged_in, claims_in, certified, code_in, tick_in, left_in, right_in}
 use Rattle.report.specs.Text.{bytes, decimal, decimal_short}
 
@@ -44,6 +51,15 @@ verdict_words code tick left right =
 
 abbrev pub words_in : List ℕ → ℕ → List ℕ
 words_in verdicts k = verdict_words (code_in verdicts k) (tick_in verdicts k) (left_in verdicts k) (right_in verdicts k)
+
+-- the same, by the code as the code's enum has it
+unfoldable pub words_of : Code → ℕ → ℕ → ℕ → List ℕ
+unfolding bytes refuted_at
+words_of code.Accepted tick left right = bytes " accepted\n"
+words_of code.RefutedAt tick left right = refuted_at tick left right
+words_of code.RefutedByRate tick left right = bytes " refuted by rate\n"
+words_of code.NotLeast tick left right = bytes " refuted not least\n"
+words_of code.NotJudged tick left right = bytes " not judged\n"
 
 unfoldable pub claim_line : List ℕ → ℕ → List ℕ
 unfolding part verdict_words
@@ -88,6 +104,9 @@ unfoldable pub report_in : ℕ → ℕ → List ℕ → List ℕ
 unfolding report_of
 report_in room answer verdicts = cond (ltb room (max_line * (claims_in answer + 2))) [] (report_of answer verdicts)
 
+abbrev pub totals_in : ℕ → Totals
+totals_in answer = record { accepted = accepted_in answer; refuted = refuted_in answer; unjudged = unjudged_in answer }
+
 -- the totals of any answer of 64 bits
 pub record TotalsFit (accepted refuted unjudged : ℕ) : Type 0 where
   pub few_accepted : accepted < 2 ^ 12
@@ -110,9 +129,40 @@ total_short {accepted} {refuted} {unjudged} few = (
   decimal_short 4 unjudged (omega arith),
 )
 
-pub words_refuted : (tick left right : ℕ) → verdict_words 2 tick left right ≡ refuted_at tick left right
-unfolding verdict_words
-words_refuted tick left right = refl
+-- what is no code reads as the last one
+pub words_by : (n tick left right : ℕ) → verdict_words n tick left right ≡ words_of (result_unwrap_or (code_by n) code.NotJudged) tick left right
+unfolding verdict_words code_by words_of
+words_by n tick left right = go (eqb n 1) (eqb n 2) (eqb n 3) (eqb n 4) (eqb n 5)
+  where
+    go : (is-1 is-2 is-3 is-4 is-5 : Bool)
+        → cond is-1 (bytes " accepted\n") (cond is-2 (refuted_at tick left right) (cond is-3 (bytes " refuted by rate\n") (cond is-4 (bytes " refuted not least\n") (bytes " not judged\n"))))
+        ≡ words_of (result_unwrap_or (elim is-1 as (λ _. Result Code UnknownCode) [
+          | true ↦ Ok code.Accepted
+          | false ↦ elim is-2 as (λ _. Result Code UnknownCode) [
+            | true ↦ Ok code.RefutedAt
+            | false ↦ elim is-3 as (λ _. Result Code UnknownCode) [
+              | true ↦ Ok code.RefutedByRate
+              | false ↦
+                  elim is-4 as (λ _. Result Code UnknownCode) [ true ↦ Ok code.NotLeast | false ↦ elim is-5 as (λ _. Result Code UnknownCode) [ true ↦ Ok code.NotJudged | false ↦ Err (record {}) ] ]
+            ]
+          ]
+        ]) code.NotJudged) tick left right
+    go true b c d e = refl
+    go false true c d e = refl
+    go false false true d e = refl
+    go false false false true e = refl
+    go false false false false true = refl
+    go false false false false false = refl
+
+-- the words of a record, by the code that its first byte is read as
+pub words_read : (verdicts : List ℕ) (k : ℕ) {n : ℕ} {read : Result Code UnknownCode} {c : Code}
+    → n ≡ code_in verdicts k → read ≡ code_by n → c ≡ result_unwrap_or read code.NotJudged
+    → words_in verdicts k ≡ words_of c (tick_in verdicts k) (left_in verdicts k) (right_in verdicts k)
+words_read verdicts k {read = read} e e' e'' =
+    let is : read ≡ code_by (code_in verdicts k) = e' ∙ ap code_by e in
+    words_by (code_in verdicts k) (tick_in verdicts k) (left_in verdicts k) (right_in verdicts k)
+    ∙ ap (λ (c : Code). words_of c (tick_in verdicts k) (left_in verdicts k) (right_in verdicts k))
+    (sym (e'' ∙ ap (λ (r : Result Code UnknownCode). result_unwrap_or r code.NotJudged) is))
 
 module _ (room answer : ℕ) (verdicts : List ℕ) where
   pub report_short : room < max_line * (claims_in answer + 2) → report_in room answer verdicts ≡ []

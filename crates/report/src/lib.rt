@@ -3,13 +3,14 @@
 
 ghost use Rattle.std.specs.Prelude.{◌+◌, ◌*◌, ◌^◌, ◌≤◌, ◌<◌, ◌≡◌, length};
 ghost use Rattle.numbers.specs.Put.{put};
-ghost use Rattle.report.specs.Lines.{max_line, max_words, TotalsFit, refuted_at, words_in, claim_line, claim_lines, total_line, certified_line, refused_line, report_in};
+ghost use Rattle.report.specs.Lines.{max_line, max_words, TotalsFit, refuted_at, words_in, claim_line, claim_lines, total_line, certified_line, refused_line, report_in, totals_in};
 ghost use Rattle.numbers.specs.Written.{Wrote};
 ghost use Rattle.report.specs.Written.{IsPrefixLen};
 
 use judge::Totals;
-use numbers::{number1, number4, number8};
+use numbers::number;
 use text::{put_last_part, put_part, put_words};
+use verdict::Code;
 
 mod text;
 
@@ -34,18 +35,19 @@ fn verdict_words(out: &mut [u8], at: usize, verdicts: &[u8], k: usize) -> usize
     ensures upper_bound { result ≤ at + max_words }
 {
     let record = Totals::RECORD * k;
-    match number1(verdicts, record) {
-        1 => put_words(out, at, b" accepted\n"),
-        2 => refuted_at(
+    let code = Code::try_from(number::<1>(verdicts, record) as u8);
+    match code.unwrap_or(Code::NotJudged) {
+        Code::Accepted => put_words(out, at, b" accepted\n"),
+        Code::RefutedAt => refuted_at(
             out,
             at,
-            number4(verdicts, record + 1),
-            number8(verdicts, record + 5),
-            number8(verdicts, record + 13),
+            number::<4>(verdicts, record + 1) as u32,
+            number::<8>(verdicts, record + 5),
+            number::<8>(verdicts, record + 13),
         ),
-        3 => put_words(out, at, b" refuted by rate\n"),
-        4 => put_words(out, at, b" refuted not least\n"),
-        _ => put_words(out, at, b" not judged\n"),
+        Code::RefutedByRate => put_words(out, at, b" refuted by rate\n"),
+        Code::NotLeast => put_words(out, at, b" refuted not least\n"),
+        Code::NotJudged => put_words(out, at, b" not judged\n"),
     }
 }
 
@@ -66,36 +68,34 @@ fn claim_lines(out: &mut [u8], verdicts: &[u8], claims: usize) -> usize
     ensures upper_bound { result ≤ max_line * claims }
 {
     let mut at = 0;
-    let mut k = 0;
-    while k < claims {
+    for k in 0..claims {
         at = claim_line(out, at, verdicts, k);
-        k += 1;
     }
     at
 }
 
-fn total_line(out: &mut [u8], at: usize, accepted: u64, refuted: u64, unjudged: u64) -> usize
+fn total_line(out: &mut [u8], at: usize, totals: Totals) -> usize
     requires max_line_in_bounds { at + max_line ≤ length out.old }
-    requires totals_fit { TotalsFit accepted refuted unjudged }
-    ensures wrote { Wrote out.old at (total_line accepted refuted unjudged) out.new result }
+    requires totals_fit { TotalsFit totals.accepted totals.refuted totals.unjudged }
+    ensures wrote { Wrote out.old at (total_line totals.accepted totals.refuted totals.unjudged) out.new result }
     ensures upper_bound { result ≤ at + max_line }
 {
-    let after_claims = put_part(out, at, b"total ", accepted + refuted + unjudged);
-    let after_accepted = put_part(out, after_claims, b" accepted ", accepted);
-    let after_refuted = put_part(out, after_accepted, b" refuted ", refuted);
-    put_last_part(out, after_refuted, b" unjudged ", unjudged)
+    let claims = totals.accepted + totals.refuted + totals.unjudged;
+    let after_claims = put_part(out, at, b"total ", claims);
+    let after_accepted = put_part(out, after_claims, b" accepted ", totals.accepted);
+    let after_refuted = put_part(out, after_accepted, b" refuted ", totals.refuted);
+    put_last_part(out, after_refuted, b" unjudged ", totals.unjudged)
 }
 
 fn certified_line(out: &mut [u8], at: usize, claims: u64, accepted: u64) -> usize
     requires { at + max_line ≤ length out.old }
     ensures { Wrote out.old at (certified_line claims accepted) out.new result }
 {
-    if 1 <= claims {
-        if accepted == claims {
-            return put_words(out, at, b"certified yes\n");
-        }
+    if 1 <= claims && accepted == claims {
+        put_words(out, at, b"certified yes\n")
+    } else {
+        put_words(out, at, b"certified no\n")
     }
-    put_words(out, at, b"certified no\n")
 }
 
 fn refused_line(out: &mut [u8], refusal: u64, place: u64) -> usize
@@ -108,6 +108,18 @@ fn refused_line(out: &mut [u8], refusal: u64, place: u64) -> usize
     put_last_part(out, after_refusal, b" at ", place)
 }
 
+// The totals of an answer. Each but the last ends where the next begins.
+fn totals_in(answer: u64) -> Totals
+    ensures { result ≡ totals_in answer }
+{
+    Totals {
+        accepted: (answer >> Totals::ACCEPTED_AT)
+            % (1 << (Totals::REFUTED_AT - Totals::ACCEPTED_AT)),
+        refuted: (answer >> Totals::REFUTED_AT) % (1 << (Totals::UNJUDGED_AT - Totals::REFUTED_AT)),
+        unjudged: answer >> Totals::UNJUDGED_AT,
+    }
+}
+
 // Where `out` has no room for as many lines of the longest kind, nothing is written and the answer is 0. A record that
 // the verdict buffer does not have reads as not judged.
 pub fn report(answer: u64, verdicts: &[u8], out: &mut [u8]) -> usize
@@ -115,10 +127,8 @@ pub fn report(answer: u64, verdicts: &[u8], out: &mut [u8]) -> usize
     ensures value { result ≡ length (report_in (length out.old) answer verdicts.now) }
     ensures out_after { out.new ≡ put out.old 0 (report_in (length out.old) answer verdicts.now) }
 {
-    let accepted = answer / 16_777_216 % 4_096;
-    let refuted = answer / 68_719_476_736 % 4_096;
-    let unjudged = answer / 281_474_976_710_656;
-    let claims = accepted + refuted + unjudged;
+    let totals = totals_in(answer);
+    let claims = totals.accepted + totals.refuted + totals.unjudged;
     if (out.len() as u64) < MAX_LINE as u64 * (claims + 2) {
         return 0;
     }
@@ -127,6 +137,6 @@ pub fn report(answer: u64, verdicts: &[u8], out: &mut [u8]) -> usize
         return refused_line(out, refusal, answer / 256 % 65_536);
     }
     let after_claims = claim_lines(out, verdicts, claims as usize);
-    let after_total = total_line(out, after_claims, accepted, refuted, unjudged);
-    certified_line(out, after_total, claims, accepted)
+    let after_total = total_line(out, after_claims, totals);
+    certified_line(out, after_total, claims, totals.accepted)
 }

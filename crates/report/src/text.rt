@@ -15,13 +15,9 @@ pub(crate) fn put_words(out: &mut [u8], at: usize, words: &[u8]) -> usize
     requires { at + length words.now ≤ length out.old }
     ensures { Wrote out.old at words.now out.new result }
 {
-    let mut next = at;
-    let mut k = 0;
-    while k < words.len() {
-        next = put_byte(out, next, words[k]);
-        k += 1;
-    }
-    next
+    let end = at + words.len();
+    out[at..end].copy_from_slice(words);
+    end
 }
 
 fn put_number(out: &mut [u8], at: usize, n: u64) -> usize

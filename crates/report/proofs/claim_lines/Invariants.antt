@@ -5,6 +5,3 @@ use Rattle.report.proofs.claim_lines.Given as goal
 
 abbrev pub invariant-loop-k : goal.invariant-loop-k
 invariant-loop-k l = (l.k ≤ l.claims) × ((l.at ≤ max_line * l.k) × Wrote l.initial.out 0 (claim_lines l.verdicts l.k) l.out l.at)
-
-abbrev pub decreases-loop-k : goal.decreases-loop-k
-decreases-loop-k l = l.claims - l.k

@@ -22,5 +22,5 @@ pub returns : goal.returns
 unfolding total_line
 returns c = record {
   wrote = wrote_on (wrote_on (wrote_on c.put_part-after_claims.ensures c.put_part-after_accepted.ensures) c.put_part-after_refuted.ensures) c.put_last_part.ensures;
-  upper_bound = omega (arith, total_short c.requires.totals_fit, length-append (decimal c.args.unjudged) (10 ∷ []));
+  upper_bound = omega (arith, total_short c.requires.totals_fit, length-append (decimal c.args.totals.unjudged) (10 ∷ []));
 }

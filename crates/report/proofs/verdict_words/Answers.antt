@@ -1,44 +1,32 @@
 use mathlib.Core.Path.{◌≡◌}
-use native.Mathlib.Omega.{arith}
-use borrow.Author.Tests.{ne_eqb}
-use Rattle.judge.specs.Answer.{code_in, tick_in, left_in, right_in}
-use Rattle.report.specs.Lines.{verdict_words, words_refuted}
+use Rattle.judge.specs.Answer.{tick_in, left_in, right_in}
+use Rattle.report.specs.Lines.{words_of, words_read}
 use Rattle.report.proofs.verdict_words.Goals as goal
 
-pub returns-in-1 : goal.returns-in-1
-unfolding verdict_words
-returns-in-1 c =
-    let a = c.args in
-    let code : code_in a.verdicts.now a.k ≡ 1 = cc in record { wrote = rw code c.put_words.ensures; upper_bound = omega arith }
+pub returns-in-Accepted-clause-wrote : goal.returns-in-Accepted-clause-wrote
+unfolding words_of
+returns-in-Accepted-clause-wrote c =
+    rw (words_read c.args.verdicts.now c.args.k c.number.ensures.value c.try_from-code.ensures c.in-Accepted.ensures) c.put_words.ensures
 
-pub returns-in-2 : goal.returns-in-2
-returns-in-2 c =
-    let a = c.args in
-    let code : code_in a.verdicts.now a.k ≡ 2 = cc in
-    let tick : c.number4.result ≡ tick_in a.verdicts.now a.k = c.number4.ensures in
-    let left : c.number8.result ≡ left_in a.verdicts.now a.k = c.number8.ensures in
-    let right : c.number8-in-2.result ≡ right_in a.verdicts.now a.k = c.number8-in-2.ensures in record { wrote = rw (code, words_refuted, ← tick, ← left, ← right) c.refuted_at.ensures.wrote; upper_bound = omega arith }
+pub returns-in-RefutedAt-clause-wrote : goal.returns-in-RefutedAt-clause-wrote
+unfolding words_of
+returns-in-RefutedAt-clause-wrote c =
+    let tick : c.number-in-RefutedAt.result ≡ tick_in c.args.verdicts.now c.args.k = c.number-in-RefutedAt.ensures.value in
+    let left : c.number-in-RefutedAt-2.result ≡ left_in c.args.verdicts.now c.args.k = c.number-in-RefutedAt-2.ensures.value in
+    let right : c.number-in-RefutedAt-3.result ≡ right_in c.args.verdicts.now c.args.k = c.number-in-RefutedAt-3.ensures.value in
+    rw (words_read c.args.verdicts.now c.args.k c.number.ensures.value c.try_from-code.ensures c.in-RefutedAt.ensures, ← tick, ← left, ← right) c.refuted_at.ensures.wrote
 
-pub returns-in-3 : goal.returns-in-3
-unfolding verdict_words
-returns-in-3 c =
-    let a = c.args in
-    let code : code_in a.verdicts.now a.k ≡ 3 = cc in record { wrote = rw code c.put_words-in-3.ensures; upper_bound = omega arith }
+pub returns-in-RefutedByRate-clause-wrote : goal.returns-in-RefutedByRate-clause-wrote
+unfolding words_of
+returns-in-RefutedByRate-clause-wrote c =
+    rw (words_read c.args.verdicts.now c.args.k c.number.ensures.value c.try_from-code.ensures c.in-RefutedByRate.ensures) c.put_words-in-RefutedByRate.ensures
 
-pub returns-in-4 : goal.returns-in-4
-unfolding verdict_words
-returns-in-4 c =
-    let a = c.args in
-    let code : code_in a.verdicts.now a.k ≡ 4 = cc in record { wrote = rw code c.put_words-in-4.ensures; upper_bound = omega arith }
+pub returns-in-NotLeast-clause-wrote : goal.returns-in-NotLeast-clause-wrote
+unfolding words_of
+returns-in-NotLeast-clause-wrote c =
+    rw (words_read c.args.verdicts.now c.args.k c.number.ensures.value c.try_from-code.ensures c.in-NotLeast.ensures) c.put_words-in-NotLeast.ensures
 
-pub returns-in_default : goal.returns-in_default
-unfolding verdict_words
-returns-in_default c =
-    let a = c.args in
-    let code = code_in a.verdicts.now a.k in
-    let is : c.number1.result ≡ code = c.number1.ensures in
-    let not-1 : code ≡ 1 → ⊥ = λ e. omega (arith, is, e) in
-    let not-2 : code ≡ 2 → ⊥ = λ e. omega (arith, is, e) in
-    let not-3 : code ≡ 3 → ⊥ = λ e. omega (arith, is, e) in
-    let not-4 : code ≡ 4 → ⊥ = λ e. omega (arith, is, e) in
-    record { wrote = rw (ne_eqb code 1 not-1, ne_eqb code 2 not-2, ne_eqb code 3 not-3, ne_eqb code 4 not-4, verdict_words) c.put_words-in_default.ensures; upper_bound = omega arith }
+pub returns-in-NotJudged-clause-wrote : goal.returns-in-NotJudged-clause-wrote
+unfolding words_of
+returns-in-NotJudged-clause-wrote c =
+    rw (words_read c.args.verdicts.now c.args.k c.number.ensures.value c.try_from-code.ensures c.in-NotJudged.ensures) c.put_words-in-NotJudged.ensures

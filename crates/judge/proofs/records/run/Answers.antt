@@ -1,51 +1,46 @@
 use native.Mathlib.Omega.{arith}
-use mathlib.Core.Path.{sym}
-use Rattle.judge.specs.Held.{claims_few, claim_ready, countable, length-written, record_room, runs_keeps, ran_none, ran_more, ran_all}
+use mathlib.Core.Path.{sym, ap, ◌∙◌}
+use Prim.Native.Nat.{◌*◌}
+use lib.Seq.{length-take-le}
+use Rattle.minplus.specs.Verdict.{Record}
+use Rattle.numbers.specs.Put.{put}
+use Rattle.verdict.specs.Given.{decided_of}
+use Rattle.judge.specs.Answer.{record_size}
+use Rattle.judge.specs.Records.{record_bytes}
+use Rattle.judge.specs.Totals.{code_with}
+use Rattle.judge.specs.Held.{curves_few, claims_few, claim_ready, countable, length-written, record_room, ran_none, ran_more, ran_all}
 use Rattle.judge.proofs.records.run.Goals as goal
 
-pub keep_all-requires : goal.keep_all-requires
-keep_all-requires c = runs_keeps c.requires _ _ (omega arith) (omega arith)
+pub slice_bounds-kept-end : goal.slice_bounds-kept-end
+slice_bounds-kept-end c = omega (arith, curves_few c.requires)
+
+pub slice_bounds-curves-end : goal.slice_bounds-curves-end
+slice_bounds-curves-end c = sym (length-take-le c.args.sound.now.curves _ (omega (arith, curves_few c.requires)))
 
 pub loop-k-init : goal.loop-k-init
-loop-k-init c = (ran_none c.requires c.keep_all.ensures, omega arith)
+loop-k-init c =
+    ran_none c.requires (c.keep_all.auto.curves ∙ length-take-le c.args.sound.now.curves _ (omega (arith, curves_few c.requires))) c.keep_all.ensures
 
-pub offset_bounds-places-k : goal.offset_bounds-places-k
-offset_bounds-places-k c = omega (arith, claims_few c.loop-k.invariant.0)
+pub bounds-sound-k : goal.bounds-sound-k
+bounds-sound-k c = omega (arith, claims_few c.requires)
 
-pub bounds-places-k : goal.bounds-places-k
-bounds-places-k c = omega (arith, claims_few c.loop-k.invariant.0)
-
-pub slice_bounds-record_at-end-in-loop-k-2 : goal.slice_bounds-record_at-end-in-loop-k-2
-slice_bounds-record_at-end-in-loop-k-2 c = sym c.loop-k.invariant.1
-
-pub record_at-told-requires : goal.record_at-told-requires
-record_at-told-requires c =
-    let ran = c.loop-k.invariant.0 in
-    (claim_ready ran c.loop-k-test.true, ran.kept.forms_room_lem, ran.kept.rises-room, omega (arith, c.loop-k.invariant.1))
-
-pub overflow_mul-k : goal.overflow_mul-k
-overflow_mul-k c = omega (arith, claims_few c.loop-k.invariant.0)
+pub decided_at-decided-requires : goal.decided_at-decided-requires
+decided_at-decided-requires c = claim_ready c.loop-k.invariant c.loop-k-test.true
 
 pub put_record-requires : goal.put_record-requires
-put_record-requires c = record_room c.loop-k.invariant.0 c.loop-k-test.true
+put_record-requires c = record_room c.loop-k.invariant c.loop-k-test.true
 
-pub counted-totals-requires : goal.counted-totals-requires
-counted-totals-requires c = countable c.loop-k.invariant.0
-
-pub overflow_add-k : goal.overflow_add-k
-overflow_add-k c = omega (arith, claims_few c.loop-k.invariant.0)
+pub count-requires : goal.count-requires
+count-requires c = countable c.loop-k.invariant
 
 pub loop-k-preserved : goal.loop-k-preserved
-loop-k-preserved c = (
-  ran_more c.loop-k.invariant.0 c.loop-k-test.true _
-      c.record_at-told.ensures c.put_record.ensures c.counted-totals.ensures,
-  omega (arith, c.loop-k.invariant.1),
-)
-
-pub shape_of-verdicts : goal.shape_of-verdicts
-shape_of-verdicts c = length-written c.loop-k.invariant.0
+loop-k-preserved c =
+    let decided : Record = decided_of c.decided_at-decided.result in
+    ran_more c.loop-k.invariant c.loop-k-test.true decided c.decided_at-decided.ensures
+    (c.put_record.ensures ∙ ap (λ (r : Record). put c.loop-k.verdicts (record_size * c.loop-k.k) (record_bytes r)) c.from.ensures)
+    (rw code_with c.count.ensures)
 
 pub returns : goal.returns
 returns c =
-    let all = ran_all c.loop-k.invariant.0 (omega arith) in
+    let all = ran_all c.loop-k.invariant (omega arith) in
     record { value = all.0; verdicts_after = all.1 }
