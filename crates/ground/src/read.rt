@@ -11,16 +11,12 @@ struct Run {
 
 // The place after a byte, from `from` on, or the end.
 pub(crate) fn past(s: &[u8], from: usize, byte: u8) -> usize {
-    let at = lines::find(s, from, byte);
-    if at < s.len() { at + 1 } else { at }
+    s.len().min(lines::find(s, from, byte) + 1)
 }
 
 // What 32 bits don't hold becomes the largest number that they do.
 pub(crate) fn narrow(value: u64) -> u32 {
-    if 4_294_967_295 < value {
-        return 4_294_967_295;
-    }
-    value as u32
+    u32::try_from(value).unwrap_or(u32::MAX)
 }
 
 // A value alone, or the value, * and how many times it is listed. 0 times where no digit stands.
@@ -36,20 +32,20 @@ fn run_at(s: &[u8], from: usize) -> Run {
         };
     }
     let value = narrow(first.value);
-    if end < s.len() {
-        if s[end] == b'*' {
+    match s.get(end) {
+        Some(b'*') => {
             let times = lines::digits(s, end + 1);
-            return Run {
+            Run {
                 value,
                 times: times.value,
                 next: times.next,
-            };
+            }
         }
-    }
-    Run {
-        value,
-        times: 1,
-        next: end,
+        _ => Run {
+            value,
+            times: 1,
+            next: end,
+        },
     }
 }
 
@@ -61,17 +57,15 @@ fn values(s: &[u8], from: usize) -> [u32; Curve::MAX_LISTED] {
         times: 0,
         next: from,
     };
-    let mut count: usize = 0;
-    while count < Curve::MAX_LISTED {
+    for value in values.iter_mut() {
         if listed.times == 0 {
             listed = run_at(s, listed.next);
         }
         if listed.times == 0 {
             break;
         }
-        values[count] = listed.value;
+        *value = listed.value;
         listed.times -= 1;
-        count += 1;
     }
     values
 }
