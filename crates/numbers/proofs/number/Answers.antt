@@ -1,4 +1,4 @@
-use Rattle.std.specs.Prelude.{ℕ, ◌+◌, ◌-◌, ◌*◌, ◌^◌, ◌≤◌, ◌<◌, ◌≡◌, refl, List, length, take, drop, get_or}
+use Rattle.std.specs.Prelude.{ℕ, ◌+◌, ◌-◌, ◌*◌, ◌^◌, ◌≤◌, ◌<◌, ◌≡◌, refl, List, length, take, drop}
 use Rattle.std.proofs.Common.{sym, ap, ◌∙◌, arith, length-drop, length-take-le, take_all}
 use Rattle.std.proofs.Math.Nat.{one-le-pow, pow-le-pow_right}
 use Rattle.numbers.specs.Numbers.{number_after, number_torn, number_whole}
@@ -21,11 +21,11 @@ wide W at s fits room =
     let e : at + W - at ≡ W = omega arith in
     rw e (length-take-le W (drop at s) (omega (arith, length-drop at s)))
 
--- of at most eight bytes, a byte more still fits 64 bits
-below : (k W n b : ℕ) → k < W → W ≤ 8 → n < 256 ^ k → b < 256 → n * 256 + b < 256 ^ 8
-below k W n b lt small bound byte =
+-- of at most eight bytes, one more still fits 64 bits
+below : (k W n : ℕ) → k < W → W ≤ 8 → n < 256 ^ k → n * 256 + 255 < 256 ^ 8
+below k W n lt small bound =
     let less : 256 ^ (k + 1) ≤ 256 ^ 8 = pow-le-pow_right (omega arith) {j = 8} (omega arith) in
-    omega (arith, less, room_for_byte k n b bound byte)
+    omega (arith, less, room_for_byte k n 255 bound (omega arith))
 
 pub loop-byte-init : goal.loop-byte-init
 unfolding number_after
@@ -35,13 +35,13 @@ pub overflow_mul-number : goal.overflow_mul-number
 overflow_mul-number g c =
     let l = c.loop-byte in
     let size = wide g.row.W c.args.at c.args.bytes.now c.if-length.false c.if-length-at.false in
-    omega (arith, below l.byte-index g.row.W l.number 0 (omega arith) (omega arith) l.invariant.bound (omega arith))
+    omega (arith, below l.byte-index g.row.W l.number (omega arith) (omega arith) l.invariant.bound)
 
 pub overflow_add-number : goal.overflow_add-number
 overflow_add-number g c =
     let l = c.loop-byte in
     let size = wide g.row.W c.args.at c.args.bytes.now c.if-length.false c.if-length-at.false in
-    omega (arith, below l.byte-index g.row.W l.number (get_or (take (c.args.at + g.row.W - c.args.at) (drop c.args.at c.args.bytes.now)) l.byte-index 0) (omega arith) (omega arith) l.invariant.bound (omega arith))
+    omega (arith, below l.byte-index g.row.W l.number (omega arith) (omega arith) l.invariant.bound)
 
 pub loop-byte-preserved : goal.loop-byte-preserved
 loop-byte-preserved g c =
