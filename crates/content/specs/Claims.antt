@@ -1,6 +1,6 @@
 -- A claim as the code goes through it: the kind with X, then the ids, then X again.
 --
---     named_id, claimed_by     the curve that an id names, of so many; the claimed curve of a claim that has one, else 0
+--     named_id, claimed_by     the curve that an id names, of so many; a claim's claimed curve, 0 where it has none
 --     and_then                 what is tried after something that may be refused
 --     field_named              what is stated, by what `Claim::new` says of kind and X; field_by_name: that is
 --                              statement_field
