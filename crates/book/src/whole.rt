@@ -30,6 +30,7 @@ pub fn read(book: &[u8]) -> Result<Book, Refused>
     };
     loop {
         let answer = step(book, state);
+        // `?` would say the same: the documents name this form.
         let Ok(taken) = answer else {
             return Err(answer.unwrap_err());
         };

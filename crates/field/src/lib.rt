@@ -64,14 +64,14 @@ impl State {
 }
 
 // A field that is taken: its tag, and the state after it.
-#[derive(Clone, Copy, PartialEq, Eq)]
+#[derive(Clone, Copy)]
 pub struct Taken {
     pub tag: Tag,
     pub state: State,
 }
 
 // A refusal with its place.
-#[derive(Clone, Copy, PartialEq, Eq)]
+#[derive(Clone, Copy)]
 pub struct Refused {
     pub refusal: Refusal,
     pub place: usize,
