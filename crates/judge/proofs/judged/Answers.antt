@@ -2,7 +2,6 @@ use mathlib.Core.Path.{◌≡◌, refl, sym, ap, ◌∙◌}
 use native.Mathlib.Omega.{arith}
 use lib.ListN.{length}
 use Rattle.std.proofs.Common.{rules}
-use Rattle.field.specs.Steps.{max_claims}
 use Rattle.book.specs.declared.Book.{Book}
 use Rattle.book.specs.Sound.{sound_book}
 use Rattle.book.specs.Held.{read_refused, read_sound}

@@ -1,4 +1,4 @@
-use Prim.Native.Nat.{◌-◌, ◌*◌, ◌≤◌}
+use Prim.Native.Nat.{◌*◌, ◌≤◌}
 use Rattle.numbers.specs.Written.{Wrote}
 use Rattle.report.specs.Lines.{max_line, claim_lines}
 use Rattle.report.proofs.claim_lines.Given as goal

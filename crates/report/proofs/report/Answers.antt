@@ -1,9 +1,5 @@
-use mathlib.Core.Path.{◌≡◌, ap, ◌∙◌}
-use Prim.Native.Nat.{ℕ, ◌+◌}
 use native.Mathlib.Omega.{arith}
 use lib.ListN.{length}
-use Rattle.judge.specs.declared.Totals.{Totals}
-use Rattle.judge.specs.Answer.{claims_in}
 use Rattle.numbers.specs.Written.{wrote_nothing, wrote_on}
 use Rattle.report.specs.Written.{wrote_first}
 use Rattle.report.specs.Lines.{report_short, report_refused, report_judged}

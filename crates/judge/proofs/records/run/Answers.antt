@@ -8,7 +8,7 @@ use Rattle.verdict.specs.Given.{decided_of}
 use Rattle.judge.specs.Answer.{record_size}
 use Rattle.judge.specs.Records.{record_bytes}
 use Rattle.judge.specs.Totals.{code_with}
-use Rattle.judge.specs.Held.{curves_few, claims_few, claim_ready, countable, length-written, record_room, ran_none, ran_more, ran_all}
+use Rattle.judge.specs.Held.{curves_few, claims_few, claim_ready, countable, record_room, ran_none, ran_more, ran_all}
 use Rattle.judge.proofs.records.run.Goals as goal
 
 pub slice_bounds-kept-end : goal.slice_bounds-kept-end

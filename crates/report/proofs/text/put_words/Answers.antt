@@ -1,4 +1,3 @@
-use mathlib.Core.Path.{◌≡◌, refl}
 use native.Mathlib.Omega.{arith}
 use Rattle.report.specs.Written.{wrote_words}
 use Rattle.report.proofs.text.put_words.Goals as goal
