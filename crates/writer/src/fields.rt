@@ -13,6 +13,7 @@ use field::steps::{full, in_order};
 use numbers::put;
 
 // So many bytes from a place on have room.
+#[tactic(auto, unfolding(crate::specs::Writing::room_fault))]
 fn room_fault(room: usize, place: usize, size: usize) -> Result<(), Refusal>
     ensures { result ≡ room_fault room place size }
 {
@@ -24,6 +25,7 @@ fn room_fault(room: usize, place: usize, size: usize) -> Result<(), Refusal>
 
 impl Writer {
     // A field of this tag has its turn, and there are not too many of them.
+    #[tactic(auto, unfolding(crate::specs::Writing::order_fault))]
     fn order_fault(self, tag: Tag) -> Result<(), Refusal>
         ensures { result ≡ order_fault self tag }
     {

@@ -19,12 +19,14 @@ const VERSION: u64 = 1_099_511_627_776;
 const CLOSED: u64 = 140_737_488_355_328;
 
 // Closed, or no writer's state, since it has a higher bit or more bytes than a book.
+#[tactic(auto, unfolding(crate::specs::States::takes_nothing))]
 fn takes_nothing(state: u64) -> bool
     ensures { result ≡ takes_nothing state }
 {
     Book::MAX_BYTES < (state % CLAIM) as usize || CLOSED <= state
 }
 
+#[tactic(auto, unfolding(crate::specs::States::writer_of))]
 pub(crate) fn writer_of(state: u64) -> Writer
     ensures { result ≡ writer_of state }
 {
@@ -39,6 +41,7 @@ pub(crate) fn writer_of(state: u64) -> Writer
     }
 }
 
+#[tactic(auto, unfolding(crate::specs::States::state_of))]
 fn state_of(writer: Writer) -> u64
     ensures { result ≡ state_of writer }
 {
@@ -52,6 +55,7 @@ fn state_of(writer: Writer) -> u64
 }
 
 // A refused call gives the state back as it came.
+#[tactic(auto, unfolding(crate::specs::States::answered))]
 pub(crate) fn answered(state: u64, answer: Result<(), Refusal>, writer: Writer) -> BookCall
     ensures { result ≡ answered state (record { checked = answer; writer = writer }) }
 {
