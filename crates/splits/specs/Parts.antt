@@ -6,8 +6,8 @@
 --     listed_over             so many of a function's values at the front of a list (part_length): listed-length,
 --                             listed_inside
 --     Carries, carried_in     one number that is carried, from the others, and what it asks
---     Kept N L C t e          what stands in the arrays at a tick: values of N, and from the tick t on of L and, for one
---                             round of e ticks, of C: kept_none, kept_near, kept_last, kept_skip, kept_early,
+--     Kept N L C t e          what stands in the arrays at a tick: values of N, and from the tick t on of L and, for
+--                             one round of e ticks, of C: kept_none, kept_near, kept_last, kept_skip, kept_early,
 --                             kept_carried: as it begins, and after each store or where there is none
 use Prim.Native.Nat.{ℕ, suc, ◌+◌, ◌*◌, ◌≤◌, ◌<◌, min}
 use Rattle.std.specs.Prelude.{◌≡◌, refl, Bool, true, false, ◌⊎◌, replicate, set, take}

@@ -80,7 +80,9 @@ fn late_from(itself: bool, start: Ticks) -> usize
 // The first of the `tried` ticks at which h differs from the convolution of f and g, whose values stand in the working
 // numbers. Only splits that g lists are tried, as a later one is carried over g's periods, and of a curve with itself
 // only the smaller half; and from the tick `settled` on, past the first periods of both, none is, as all is what it was
-// a period of f before, and c more. The tick that the loop stops at is compared too.
+// a period of f before, and c more. The tick that the loop stops at is compared too. It is made no part of its caller:
+// what its loops keep in registers then hangs on what stands around them, and it was seen half as slow again.
+#[inline(never)]
 fn first_split(itself: bool, f: Held, g: Held, h: Held, tried: usize, work: &mut Work) -> Compared
     requires { Foldable itself (curve_from (steps_of f)) (curve_from (steps_of g)) work.old tried × Lent (steps_of h) }
     ensures { result ≡ first_of_tried (equals convolution (curve_from (steps_of f.entry)) (curve_from (steps_of g.entry)) (curve_from (steps_of h.entry))) tried }
@@ -103,7 +105,9 @@ fn first_split(itself: bool, f: Held, g: Held, h: Held, tried: usize, work: &mut
         let reached = reach(itself, n);
         if n < settled {
             let mut near = work.left[n] + work.right[0];
-            for v in 1..start.min(reached + 1) {
+            // Both ends by `min` were slower at every tick.
+            let end = if reached < start { reached + 1 } else { start };
+            for v in 1..end {
                 near = near.min(work.left[n - v] + work.right[v]);
             }
             work.near[n] = near;
@@ -112,7 +116,8 @@ fn first_split(itself: bool, f: Held, g: Held, h: Held, tried: usize, work: &mut
         if late <= n {
             if n < settled {
                 let mut last = work.left[n - start] + work.right[start];
-                for v in start + 1..count.min(reached + 1) {
+                let end = if reached < count { reached + 1 } else { count };
+                for v in start + 1..end {
                     last = last.min(work.left[n - v] + work.right[v]);
                 }
                 work.last[n] = last;

@@ -1,5 +1,5 @@
--- `near_turn` and `last_turn` say what stands in the arrays once a least sum is stored, `late_turn` what is due and what
--- stands there once a tick is carried. Where the ways through a tick meet, `Turn` has all of it.
+-- `near_turn` and `last_turn` say what stands in the arrays once a least sum is stored, `late_turn` what is due and
+-- what stands there once a tick is carried. Where the ways through a tick meet, `Turn` has all of it.
 use Prim.Native.Nat.{ℕ, ◌+◌, ◌-◌, ◌≤◌, ◌<◌, min, max}
 use mathlib.Core.Path.{◌≡◌, refl, sym, ap, ◌∙◌}
 use mathlib.Core.Bool.{Bool}
@@ -23,12 +23,9 @@ use Rattle.splits.specs.Periods.{added_fits, Placed, Turned, turned_back, turned
 use Rattle.splits.specs.Reach.{due_early, due_late, late_first, late_inside, late_of, near_of, reach_inside, reach_of}
 use Rattle.splits.specs.Splits.{settled_of, Foldable, Folds, Holds, LeastUpTo, folds_none, split_fits, split_least, all_tried, near_stored, near_settled, last_stored, last_settled, near_is, near_fits, carried_is, carries, kept_next, kept_before, from_first, from_next}
 use Rattle.splits.proofs.first_split.Goals as goal
-use Rattle.splits.proofs.first_split.Goals.{then-n-settled+else-loop-v-test, else-n-settled, then-late-n+then-turn-span, then-n-settled-2+else-loop-v-then-n-settled-2-test, else-n-settled-2, then-late-n+else-turn-span, else-late-n, then-at-settled, else-at-settled}
+use Rattle.splits.proofs.first_split.Goals.{then-reached-start, else-reached-start, then-reached-count, else-reached-count, then-n-settled+else-loop-v-test, else-n-settled, then-late-n+then-turn-span, then-n-settled-2+else-loop-v-then-n-settled-2-test, else-n-settled-2, then-late-n+else-turn-span, else-late-n, then-at-settled, else-at-settled}
 
 -- no split is past the reach: where each inner loop ends
-reached : (k : ℕ) {r r' : ℕ} → r ≡ r' → min k (r + 1) ≡ min k (r' + 1)
-reached k = ap (λ (x : ℕ). min k (x + 1))
-
 ends_near : (end start n : ℕ) → end ≡ min start (n + 1) → max (0 + 1) end ≡ min (0 + (start - 1) + 1) (n + 1)
 ends_near end start n is = omega (arith, is)
 
@@ -91,7 +88,7 @@ overflow_add-due c =
     let n : ℕ = c.ticks.n in
     let near-kept : Holds a.itself f g a.work.now c.if-n-settled.work (min (n + 1) (settled_of f g)) (min n (settled_of f g)) n =
     elim c.if-n-settled.branch [
-      | then-n-settled+else-loop-v-test v ↦ rw v.work-is (near_turn ok folds.kept v.if-n-settled.true (v.min-v-end.ensures ∙ reached _ c.reach-reached.ensures) v.loop-v.invariant v.loop-v-test.false)
+      | then-n-settled+else-loop-v-test v ↦ rw v.work-is (near_turn ok folds.kept v.if-n-settled.true (elim v.if-reached-start.branch [ then-reached-start u ↦ omega (arith, c.reach-reached.ensures) | else-reached-start u ↦ omega (arith, c.reach-reached.ensures) ]) v.loop-v.invariant v.loop-v-test.false)
       | else-n-settled v ↦ rw v.work-is (near_settled ok (omega (arith, v.if-n-settled.false)) folds.kept)
     ] in
     let near-due : get_or c.if-n-settled.work.near c.ticks.at 0 + c.ticks.added ≡ near_of a.itself f g n = near_is ok folds.placed near-kept in
@@ -107,7 +104,7 @@ overflow_add-last c =
     let n : ℕ = c.ticks.n in
     let near-kept : Holds a.itself f g a.work.now c.if-n-settled.work (min (n + 1) (settled_of f g)) (min n (settled_of f g)) n =
     elim c.if-n-settled.branch [
-      | then-n-settled+else-loop-v-test v ↦ rw v.work-is (near_turn ok folds.kept v.if-n-settled.true (v.min-v-end.ensures ∙ reached _ c.reach-reached.ensures) v.loop-v.invariant v.loop-v-test.false)
+      | then-n-settled+else-loop-v-test v ↦ rw v.work-is (near_turn ok folds.kept v.if-n-settled.true (elim v.if-reached-start.branch [ then-reached-start u ↦ omega (arith, c.reach-reached.ensures) | else-reached-start u ↦ omega (arith, c.reach-reached.ensures) ]) v.loop-v.invariant v.loop-v-test.false)
       | else-n-settled v ↦ rw v.work-is (near_settled ok (omega (arith, v.if-n-settled.false)) folds.kept)
     ] in
     let late : g.rank ≤ n = late_inside a.itself g.rank n (omega (arith, c.late_from-late.ensures, c.if-late-n.true)) in
@@ -126,10 +123,10 @@ overflow_add-work-in-loop-v-then-n-settled-2 c =
     let n : ℕ = c.ticks.n in
     let near-kept : Holds a.itself f g a.work.now c.if-n-settled.work (min (n + 1) (settled_of f g)) (min n (settled_of f g)) n =
     elim c.if-n-settled.branch [
-      | then-n-settled+else-loop-v-test v ↦ rw v.work-is (near_turn ok folds.kept v.if-n-settled.true (v.min-v-end.ensures ∙ reached _ c.reach-reached.ensures) v.loop-v.invariant v.loop-v-test.false)
+      | then-n-settled+else-loop-v-test v ↦ rw v.work-is (near_turn ok folds.kept v.if-n-settled.true (elim v.if-reached-start.branch [ then-reached-start u ↦ omega (arith, c.reach-reached.ensures) | else-reached-start u ↦ omega (arith, c.reach-reached.ensures) ]) v.loop-v.invariant v.loop-v-test.false)
       | else-n-settled v ↦ rw v.work-is (near_settled ok (omega (arith, v.if-n-settled.false)) folds.kept)
     ] in
-    let end : c.min-v-end-then-n-settled-2.result ≡ min (g.rank + g.period) (reach_of a.itself n + 1) = c.min-v-end-then-n-settled-2.ensures ∙ reached _ c.reach-reached.ensures in
+    let end : c.if-reached-count.end ≡ min (g.rank + g.period) (reach_of a.itself n + 1) = elim c.if-reached-count.branch [ then-reached-count u ↦ omega (arith, c.reach-reached.ensures) | else-reached-count u ↦ omega (arith, c.reach-reached.ensures) ] in
     let v : ℕ = c.loop-v-then-n-settled-2.v in
     omega (arith, split_fits ok near-kept (n - v) v (omega arith) (omega (arith, end)) (omega (arith, end, reach_inside a.itself n)))
 
@@ -146,7 +143,7 @@ carry-requires c =
     let n : ℕ = c.ticks.n in
     let near-kept : Holds a.itself f g a.work.now c.if-n-settled.work (min (n + 1) (settled_of f g)) (min n (settled_of f g)) n =
     elim c.if-n-settled.branch [
-      | then-n-settled+else-loop-v-test v ↦ rw v.work-is (near_turn ok folds.kept v.if-n-settled.true (v.min-v-end.ensures ∙ reached _ c.reach-reached.ensures) v.loop-v.invariant v.loop-v-test.false)
+      | then-n-settled+else-loop-v-test v ↦ rw v.work-is (near_turn ok folds.kept v.if-n-settled.true (elim v.if-reached-start.branch [ then-reached-start u ↦ omega (arith, c.reach-reached.ensures) | else-reached-start u ↦ omega (arith, c.reach-reached.ensures) ]) v.loop-v.invariant v.loop-v-test.false)
       | else-n-settled v ↦ rw v.work-is (near_settled ok (omega (arith, v.if-n-settled.false)) folds.kept)
     ] in
     let again : leb (c.late_from-late.result + g.period) n ≡ leb (late_of a.itself g.rank + g.period) n = ap (λ (x : ℕ). leb (x + g.period) n) c.late_from-late.ensures in
@@ -154,7 +151,7 @@ carry-requires c =
     let last-kept : Holds a.itself f g a.work.now c.if-n-settled-2.work (min (n + 1) (settled_of f g)) (min (n + 1) (settled_of f g)) n =
     elim c.if-n-settled-2.branch [
       | then-n-settled-2+else-loop-v-then-n-settled-2-test v ↦
-          rw v.work-is (last_turn ok late near-kept v.if-n-settled-2.true (v.min-v-end-then-n-settled-2.ensures ∙ reached _ c.reach-reached.ensures) v.loop-v-then-n-settled-2.invariant v.loop-v-then-n-settled-2-test.false)
+          rw v.work-is (last_turn ok late near-kept v.if-n-settled-2.true (elim v.if-reached-count.branch [ then-reached-count u ↦ omega (arith, c.reach-reached.ensures) | else-reached-count u ↦ omega (arith, c.reach-reached.ensures) ]) v.loop-v-then-n-settled-2.invariant v.loop-v-then-n-settled-2-test.false)
       | else-n-settled-2 v ↦ rw v.work-is (last_settled ok (omega (arith, v.if-n-settled-2.false)) near-kept)
     ] in
     carries ok late last-kept folds.placed folds.turned _ again (omega arith)
@@ -178,7 +175,7 @@ ticks-preserved c =
     let n : ℕ = c.ticks.n in
     let near-kept : Holds a.itself f g a.work.now c.if-n-settled.work (min (n + 1) (settled_of f g)) (min n (settled_of f g)) n =
     elim c.if-n-settled.branch [
-      | then-n-settled+else-loop-v-test v ↦ rw v.work-is (near_turn ok folds.kept v.if-n-settled.true (v.min-v-end.ensures ∙ reached _ c.reach-reached.ensures) v.loop-v.invariant v.loop-v-test.false)
+      | then-n-settled+else-loop-v-test v ↦ rw v.work-is (near_turn ok folds.kept v.if-n-settled.true (elim v.if-reached-start.branch [ then-reached-start u ↦ omega (arith, c.reach-reached.ensures) | else-reached-start u ↦ omega (arith, c.reach-reached.ensures) ]) v.loop-v.invariant v.loop-v-test.false)
       | else-n-settled v ↦ rw v.work-is (near_settled ok (omega (arith, v.if-n-settled.false)) folds.kept)
     ] in
     let near-due : get_or c.if-n-settled.work.near c.ticks.at 0 + c.ticks.added ≡ near_of a.itself f g n = near_is ok folds.placed near-kept in
@@ -190,7 +187,7 @@ ticks-preserved c =
           let last-kept : Holds a.itself f g a.work.now w.if-n-settled-2.work (min (n + 1) (settled_of f g)) (min (n + 1) (settled_of f g)) n =
           elim w.if-n-settled-2.branch [
             | then-n-settled-2+else-loop-v-then-n-settled-2-test v ↦
-                rw v.work-is (last_turn ok late near-kept v.if-n-settled-2.true (v.min-v-end-then-n-settled-2.ensures ∙ reached _ c.reach-reached.ensures) v.loop-v-then-n-settled-2.invariant v.loop-v-then-n-settled-2-test.false)
+                rw v.work-is (last_turn ok late near-kept v.if-n-settled-2.true (elim v.if-reached-count.branch [ then-reached-count u ↦ omega (arith, c.reach-reached.ensures) | else-reached-count u ↦ omega (arith, c.reach-reached.ensures) ]) v.loop-v-then-n-settled-2.invariant v.loop-v-then-n-settled-2-test.false)
             | else-n-settled-2 v ↦ rw v.work-is (last_settled ok (omega (arith, v.if-n-settled-2.false)) near-kept)
           ] in
           let carried = late_turn ok late last-kept folds.placed folds.turned again near-due w.carry.ensures.value w.carry.ensures.work_after in
@@ -200,7 +197,7 @@ ticks-preserved c =
           let last-kept : Holds a.itself f g a.work.now w.if-n-settled-2.work (min (n + 1) (settled_of f g)) (min (n + 1) (settled_of f g)) n =
           elim w.if-n-settled-2.branch [
             | then-n-settled-2+else-loop-v-then-n-settled-2-test v ↦
-                rw v.work-is (last_turn ok late near-kept v.if-n-settled-2.true (v.min-v-end-then-n-settled-2.ensures ∙ reached _ c.reach-reached.ensures) v.loop-v-then-n-settled-2.invariant v.loop-v-then-n-settled-2-test.false)
+                rw v.work-is (last_turn ok late near-kept v.if-n-settled-2.true (elim v.if-reached-count.branch [ then-reached-count u ↦ omega (arith, c.reach-reached.ensures) | else-reached-count u ↦ omega (arith, c.reach-reached.ensures) ]) v.loop-v-then-n-settled-2.invariant v.loop-v-then-n-settled-2-test.false)
             | else-n-settled-2 v ↦ rw v.work-is (last_settled ok (omega (arith, v.if-n-settled-2.false)) near-kept)
           ] in
           let carried = late_turn ok late last-kept folds.placed folds.turned again near-due w.carry.ensures.value w.carry.ensures.work_after in
@@ -232,7 +229,7 @@ returns-then-due-value c =
     let n : ℕ = c.ticks.n in
     let near-kept : Holds a.itself f g a.work.now c.if-n-settled.work (min (n + 1) (settled_of f g)) (min n (settled_of f g)) n =
     elim c.if-n-settled.branch [
-      | then-n-settled+else-loop-v-test v ↦ rw v.work-is (near_turn ok folds.kept v.if-n-settled.true (v.min-v-end.ensures ∙ reached _ c.reach-reached.ensures) v.loop-v.invariant v.loop-v-test.false)
+      | then-n-settled+else-loop-v-test v ↦ rw v.work-is (near_turn ok folds.kept v.if-n-settled.true (elim v.if-reached-start.branch [ then-reached-start u ↦ omega (arith, c.reach-reached.ensures) | else-reached-start u ↦ omega (arith, c.reach-reached.ensures) ]) v.loop-v.invariant v.loop-v-test.false)
       | else-n-settled v ↦ rw v.work-is (near_settled ok (omega (arith, v.if-n-settled.false)) folds.kept)
     ] in
     let near-due : get_or c.if-n-settled.work.near c.ticks.at 0 + c.ticks.added ≡ near_of a.itself f g n = near_is ok folds.placed near-kept in
@@ -244,7 +241,7 @@ returns-then-due-value c =
           let last-kept : Holds a.itself f g a.work.now w.if-n-settled-2.work (min (n + 1) (settled_of f g)) (min (n + 1) (settled_of f g)) n =
           elim w.if-n-settled-2.branch [
             | then-n-settled-2+else-loop-v-then-n-settled-2-test v ↦
-                rw v.work-is (last_turn ok late near-kept v.if-n-settled-2.true (v.min-v-end-then-n-settled-2.ensures ∙ reached _ c.reach-reached.ensures) v.loop-v-then-n-settled-2.invariant v.loop-v-then-n-settled-2-test.false)
+                rw v.work-is (last_turn ok late near-kept v.if-n-settled-2.true (elim v.if-reached-count.branch [ then-reached-count u ↦ omega (arith, c.reach-reached.ensures) | else-reached-count u ↦ omega (arith, c.reach-reached.ensures) ]) v.loop-v-then-n-settled-2.invariant v.loop-v-then-n-settled-2-test.false)
             | else-n-settled-2 v ↦ rw v.work-is (last_settled ok (omega (arith, v.if-n-settled-2.false)) near-kept)
           ] in
           let carried = late_turn ok late last-kept folds.placed folds.turned again near-due w.carry.ensures.value w.carry.ensures.work_after in
@@ -254,7 +251,7 @@ returns-then-due-value c =
           let last-kept : Holds a.itself f g a.work.now w.if-n-settled-2.work (min (n + 1) (settled_of f g)) (min (n + 1) (settled_of f g)) n =
           elim w.if-n-settled-2.branch [
             | then-n-settled-2+else-loop-v-then-n-settled-2-test v ↦
-                rw v.work-is (last_turn ok late near-kept v.if-n-settled-2.true (v.min-v-end-then-n-settled-2.ensures ∙ reached _ c.reach-reached.ensures) v.loop-v-then-n-settled-2.invariant v.loop-v-then-n-settled-2-test.false)
+                rw v.work-is (last_turn ok late near-kept v.if-n-settled-2.true (elim v.if-reached-count.branch [ then-reached-count u ↦ omega (arith, c.reach-reached.ensures) | else-reached-count u ↦ omega (arith, c.reach-reached.ensures) ]) v.loop-v-then-n-settled-2.invariant v.loop-v-then-n-settled-2-test.false)
             | else-n-settled-2 v ↦ rw v.work-is (last_settled ok (omega (arith, v.if-n-settled-2.false)) near-kept)
           ] in
           let carried = late_turn ok late last-kept folds.placed folds.turned again near-due w.carry.ensures.value w.carry.ensures.work_after in

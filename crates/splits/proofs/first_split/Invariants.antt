@@ -14,10 +14,10 @@ use Rattle.splits.specs.Splits.{Folds, LeastUpTo}
 use Rattle.splits.proofs.first_split.Given as goal
 
 abbrev pub invariant-loop-v : goal.invariant-loop-v
-invariant-loop-v l = LeastUpTo (λ i. get_or l.work.left i 0) (λ i. get_or l.work.right i 0) 0 l.n l.v l.near × (l.v ≤ max 1 l.v-end)
+invariant-loop-v l = LeastUpTo (λ i. get_or l.work.left i 0) (λ i. get_or l.work.right i 0) 0 l.n l.v l.near × (l.v ≤ max 1 l.end)
 
 abbrev pub invariant-loop-v-then-n-settled-2 : goal.invariant-loop-v-then-n-settled-2
-invariant-loop-v-then-n-settled-2 l = LeastUpTo (λ i. get_or l.work.left i 0) (λ i. get_or l.work.right i 0) l.start l.n l.v l.last × (l.v ≤ max (l.start + 1) l.v-end)
+invariant-loop-v-then-n-settled-2 l = LeastUpTo (λ i. get_or l.work.left i 0) (λ i. get_or l.work.right i 0) l.start l.n l.v l.last × (l.v ≤ max (l.start + 1) l.end)
 
 abbrev pub invariant-ticks : goal.invariant-ticks
 invariant-ticks l =
