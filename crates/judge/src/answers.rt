@@ -8,6 +8,7 @@ use verdict::Verdict;
 
 impl Totals {
     // With one verdict more.
+    #[tactic(auto, unfolding(crate::specs::Totals::counted, minplus::specs::Verdict::record_with))]
     pub(crate) fn count(&mut self, verdict: Verdict)
         requires { Countable self.old }
         ensures { self.new ≡ counted self.old (code_of (verdict_of verdict)) }

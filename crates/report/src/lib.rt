@@ -17,6 +17,7 @@ mod text;
 // The longest line: `claim K refuted at N left V right W` with K of 5 digits, N of 10, V and W of 20.
 pub const MAX_LINE: usize = 87;
 
+#[tactic(auto, using(crate::specs::Lines::refuted_short))]
 fn refuted_at(out: &mut [u8], at: usize, tick: u32, left: u64, right: u64) -> usize
     requires { at + max_words ≤ length out.old }
     ensures wrote { Wrote out.old at (refuted_at tick left right) out.new result }
@@ -74,6 +75,7 @@ fn claim_lines(out: &mut [u8], verdicts: &[u8], claims: usize) -> usize
     at
 }
 
+#[tactic(auto, using(crate::specs::Lines::total_short))]
 fn total_line(out: &mut [u8], at: usize, totals: Totals) -> usize
     requires max_line_in_bounds { at + max_line ≤ length out.old }
     requires totals_fit { TotalsFit totals.accepted totals.refuted totals.unjudged }
@@ -87,6 +89,7 @@ fn total_line(out: &mut [u8], at: usize, totals: Totals) -> usize
     put_last_part(out, after_refuted, b" unjudged ", totals.unjudged)
 }
 
+#[tactic(auto, unfolding(crate::specs::Lines::certified_line))]
 fn certified_line(out: &mut [u8], at: usize, claims: u64, accepted: u64) -> usize
     requires { at + max_line ≤ length out.old }
     ensures { Wrote out.old at (certified_line claims accepted) out.new result }

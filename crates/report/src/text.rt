@@ -3,6 +3,7 @@ ghost use Rattle.std.specs.Prelude.{◌+◌, ◌≤◌, ◌<◌, [], ◌∷◌, 
 ghost use Rattle.report.specs.Text.{decimal};
 ghost use Rattle.numbers.specs.Written.{Wrote};
 
+#[tactic(auto, using(crate::specs::Written::wrote_byte))]
 fn put_byte(out: &mut [u8], at: usize, byte: u8) -> usize
     requires { at < length out.old }
     ensures { Wrote out.old at (byte ∷ []) out.new result }

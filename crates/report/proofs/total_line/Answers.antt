@@ -6,18 +6,6 @@ use Rattle.numbers.specs.Written.{wrote_on}
 use Rattle.report.specs.Lines.{total_line, total_short}
 use Rattle.report.proofs.total_line.Goals as goal
 
-pub put_part-after_claims-requires : goal.put_part-after_claims-requires
-put_part-after_claims-requires c = omega (arith, total_short c.requires.totals_fit)
-
-pub put_part-after_accepted-requires : goal.put_part-after_accepted-requires
-put_part-after_accepted-requires c = omega (arith, total_short c.requires.totals_fit)
-
-pub put_part-after_refuted-requires : goal.put_part-after_refuted-requires
-put_part-after_refuted-requires c = omega (arith, total_short c.requires.totals_fit)
-
-pub put_last_part-requires : goal.put_last_part-requires
-put_last_part-requires c = omega (arith, total_short c.requires.totals_fit)
-
 pub returns : goal.returns
 unfolding total_line
 returns c = record {
