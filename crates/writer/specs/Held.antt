@@ -6,6 +6,7 @@
 --     version_size, curve_size, claim_size, end_size     how many bytes it has
 --     Filling              the values of a curve, as far as they are written: filling_none, filling_more, filling_all;
 --                          filling_length: as many bytes as before
+--     fault_is, moved_by_lem     the tests and the new state, by the field's size
 use Prim.Native.Nat.{ℕ, ◌+◌, ◌*◌, ◌≤◌, ◌<◌}
 use Rattle.std.specs.Prelude.{◌≡◌, Bool, true, false, take, get_or, leb}
 use Rattle.std.proofs.Math.Path.{refl, sym, ap}
@@ -18,12 +19,15 @@ use Rattle.numbers.specs.Put.{put, put_whole, bytes_of, length-put, length-bytes
 use Rattle.numbers.specs.Written.{Wrote, wrote_nothing, wrote_number, wrote_length, wrote_on}
 use Rattle.content.specs.declared.Statement.{Statement}
 use Rattle.content.specs.Layout.{values_bytes, curve_bytes, third_width, claim_bytes}
+use Rattle.content.specs.Refusals.{Checked}
 use Rattle.content.specs.Back.{length_values, length_curve, length-claim}
 use Rattle.field.specs.declared.Tag.{Tag}
 use Rattle.field.specs.declared.Tag.TheVariants as tag
 use Rattle.field.specs.Fields.{tag_number, field_bytes}
+use Rattle.field.specs.Steps.{after}
 use Rattle.field.specs.Back.{length_field}
-use Rattle.writer.specs.Writing.{begin, add_curve, add_claim, close, call_content, call_field}
+use Rattle.writer.specs.declared.Writer.{Writer}
+use Rattle.writer.specs.Writing.{Call, begin, add_curve, add_claim, close, call_tag, call_content, call_field, first, order_fault, argument_fault, room_fault, call_fault, version_of, closes, moved_by}
 
 abbrev pub head_bytes : Tag → ℕ → List ℕ
 head_bytes t n = bytes_of 1 (tag_number t) ++ bytes_of 2 n
@@ -167,3 +171,15 @@ module _ {s : List ℕ} {at : ℕ} {values : List ℕ} {n : ℕ} {s' : List ℕ}
 
   pub filling_all : length values ≤ n → s' ≡ put s at (values_bytes values)
   filling_all all = f.so_far.held ∙ ap (λ (l : List ℕ). put s at (values_bytes l)) (take_all n values all)
+
+-- ---- a call, by its field's size
+
+module _ (call : Call) (w : Writer) where
+  pub fault_is : (room size : ℕ) {a : Checked} → length (call_field call) ≡ size → a ≡ argument_fault w.state.curves call
+      → first (order_fault w (call_tag call)) (first a (room_fault room w.state.place size)) ≡ call_fault w room call
+  unfolding call_fault
+  fault_is room size long e = rw (e, long)
+
+  pub moved_by_lem : (size : ℕ) → length (call_field call) ≡ size
+      → ◌≡◌ {A = Writer} (record { state = after (call_tag call) w.state (version_of call) (w.state.place + size); closed = closes call }) (moved_by call w)
+  moved_by_lem size long = rw long
