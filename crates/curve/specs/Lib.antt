@@ -7,5 +7,6 @@ pub mod Held
 pub mod Table
 pub mod Walks
 pub mod Claimed
+pub mod Lending
 pub mod Kinds
 pub mod Ground

@@ -6,6 +6,7 @@ ghost use Rattle.std.specs.Prelude.{◌≡◌, length};
 ghost use Rattle.curve.specs.Held.{held_over, steps_in, steps_of};
 ghost use Rattle.curve.specs.Kinds.{named_by, within};
 
+pub mod lent;
 pub mod listed;
 pub mod rates;
 pub mod values;

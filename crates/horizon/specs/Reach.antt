@@ -3,7 +3,7 @@
 --     signed_of                            a struct of two numbers as a signed number
 --     Limited                              a curve's numbers keep their limits, as those of a well-formed one do
 --                                          (limited)
---     Raisable, Extent, Small, Ready, Crossable     what is known where it is computed, so that products fit: no
+--     Raisable, Extent, Small, Crossable     what is known where it is computed, so that products fit: no
 --                                          extreme is above large, no sum of products above far
 --     raised_fits, raisable, small_more, begun_fits, above_fits, below_fits, faster_fits     that they do
 --     even_rank, crossing_n                the rank with equal rates from D, and N where f is the slower curve
@@ -51,8 +51,7 @@ pub record Limited (f : C.Curve) : Type 0 where
   pub increment_fits : f.increment ≤ C.max_units
 
 -- what an extreme is taken over: some of a curve's values, with factors that are small enough
-pub record Extent (s : Steps) (d c start count : ℕ) : Type 0 where
-  pub lent : Lent s
+pub record Extent (d c start count : ℕ) : Type 0 where
   pub some : 1 ≤ count
   pub room : start + count ≤ C.max_listed
   pub factor_fits : d ≤ C.max_listed
@@ -69,12 +68,6 @@ large = 2_199_023_255_552
 -- 2^52: no sum of their products with periods is above it, and so no N
 abbrev pub far : ℕ
 far = 4_503_599_627_370_496
-
--- f is the slower of two curves that are lent
-pub record Ready (f g : Steps) : Type 0 where
-  pub left : Lent f
-  pub right : Lent g
-  pub slower : Slower (curve_from f) (curve_from g)
 
 -- f is the slower of two curves, and A and B are within bounds
 pub record Crossable (f g : C.Curve) (a b : Signed) : Type 0 where
@@ -115,10 +108,10 @@ limited lent = record {
 pub small_more : {s : Signed} → Small large s → Small (large + large) s
 small_more small = record { plus_fits = omega (arith, small.plus_fits); minus_fits = omega (arith, small.minus_fits) }
 
-pub raisable : {s : Steps} {d c start count v left : ℕ} → Extent s d c start count → (n : ℕ) → n < start + count → v ≡ C.value (curve_from s) n → left ≤ count
+pub raisable : {s : Steps} {d c start count v left : ℕ} → Lent s → Extent d c start count → (n : ℕ) → n < start + count → v ≡ C.value (curve_from s) n → left ≤ count
     → Raisable v d c left
-raisable {s} over n lt is few = record {
-  value_fits = omega (arith, is, C.value_at_most (curve_from s) over.lent.well n, over.room);
+raisable {s} lent over n lt is few = record {
+  value_fits = omega (arith, is, C.value_at_most (curve_from s) lent.well n, over.room);
   factor_fits = over.factor_fits;
   slope_fits = over.slope_fits;
   left_fits = omega (arith, few, over.room);

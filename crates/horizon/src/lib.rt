@@ -5,15 +5,16 @@ ghost use Rattle.std.specs.Prelude.{◌≡◌, ◌+◌, ◌≤◌, max};
 ghost use Rattle.minplus.specs.Claim.{equals};
 ghost use Rattle.minplus.specs.Divisor.{lcm};
 ghost use Rattle.minplus.specs.Horizon as Def;
-ghost use Rattle.curve.specs.Steps.{Lent, curve_from};
-ghost use Rattle.curve.specs.Held.{rates_of, steps_of};
+ghost use Rattle.curve.specs.Held.{rates_of};
 ghost use Rattle.curve.specs.Claimed.{claim_of, claim_over, operation_of};
+ghost use Rattle.curve.specs.Lending.{curve_lent};
 ghost use Rattle.horizon.specs.Capped.{capped, horizon_from};
 ghost use Rattle.horizon.specs.Reach.{Limited, even_rank, horizon_answer};
 
 use crate::crossing::n_by_rates;
 use crate::divisor::common_multiple;
-use curve::{Claim, Curve, Form, Held, Operation, Ticks};
+use curve::lent::Lent;
+use curve::{Claim, Curve, Form, Operation, Ticks};
 use limits::{IllFormed, well_formed_claim};
 
 mod crossing;
@@ -64,16 +65,15 @@ fn even_rank(operation: Operation, f: Form, g: Form, period: u32) -> u32
 }
 
 // Kinds 1 to 3: K + P. N alone may need more than 32 bits; where it is above the limit, so is the horizon.
-fn result_horizon(operation: Operation, f: Held, g: Held, h: Form) -> Option<Ticks>
-    requires { Lent (steps_of f) × Lent (steps_of g) }
-    ensures { result ≡ horizon_from (Def.horizon (equals (operation_of operation) (curve_from (steps_of f.entry)) (curve_from (steps_of g.entry)) (rates_of h))) }
+fn result_horizon(operation: Operation, f: Lent, g: Lent, h: Form) -> Option<Ticks>
+    ensures { result ≡ horizon_from (Def.horizon (equals (operation_of operation) (curve_lent f.entry) (curve_lent g.entry) (rates_of h))) }
 {
     let n = n_by_rates(operation, f, g);
     if (LIMIT as u64) < n {
         return None;
     }
-    let period = common_period(f.form, g.form);
-    let rank = even_rank(operation, f.form, g.form, period).max(n as u32);
+    let period = common_period(f.held.form, g.held.form);
+    let rank = even_rank(operation, f.held.form, g.held.form, period).max(n as u32);
     horizon_from(rank.max(h.rank.0), full_period(period, h))
 }
 
@@ -87,13 +87,12 @@ fn bound_horizon(f: Form, g: Form) -> Option<Ticks>
 
 // Of curves that are lent and known to be well formed; none above the limit. Of the claimed one no value is looked at.
 #[tactic(auto, unfolding(minplus::specs::Horizon::horizon, minplus::specs::Horizon::common_period))]
-pub fn horizon_over(claim: Claim, f: Held, g: Held, h: Form) -> Option<Ticks>
-    requires { Lent (steps_of f) × Lent (steps_of g) }
-    ensures { result ≡ horizon_from (Def.horizon (claim_over claim (curve_from (steps_of f.entry)) (curve_from (steps_of g.entry)) (rates_of h))) }
+pub fn horizon_over(claim: Claim, f: Lent, g: Lent, h: Form) -> Option<Ticks>
+    ensures { result ≡ horizon_from (Def.horizon (claim_over claim (curve_lent f.entry) (curve_lent g.entry) (rates_of h))) }
 {
     match claim {
         Claim::Equals(operation) => result_horizon(operation, f, g, h),
-        Claim::AtMost(_) | Claim::Exactly(_) => bound_horizon(f.form, g.form),
+        Claim::AtMost(_) | Claim::Exactly(_) => bound_horizon(f.held.form, g.held.form),
     }
 }
 
@@ -104,5 +103,7 @@ pub fn horizon_of(claim: Claim, f: &Curve, g: &Curve, h: &Curve) -> Result<Optio
     if !well_formed_claim(claim, f, g, h) {
         return Err(IllFormed);
     }
-    Ok(horizon_over(claim, f.held(), g.held(), h.form))
+    let f = Lent { held: f.held() };
+    let g = Lent { held: g.held() };
+    Ok(horizon_over(claim, f, g, h.form))
 }

@@ -3,7 +3,7 @@
 --     first_of_tried c tried     the first of so many ticks that breaks the rule, with its two values, and the ticks
 --                        compared
 --     break_of c         the same of the ticks that are tried
---     Judgeable          a claim whose curves are lent, with its horizon, which is within the limit
+--     Judgeable          what is asked of a claim, and its horizon, which is within the limit
 --     Searched, LessAsked     what the searches of kinds 1 to 3 are given, and what is given where X-1 is asked for
 --     later_by, more_by  how many ticks later the right value of kinds 4 to 7 is taken, and what is added to it
 --                        (allowed-by)
@@ -32,7 +32,8 @@ use Rattle.curve.specs.declared.Deviation as deviation
 use Rattle.curve.specs.declared.Operation as op
 use Rattle.curve.specs.declared.Deviation.TheVariants.{Delay, Backlog}
 use Rattle.curve.specs.Steps.{Steps, Lent, curve_from}
-use Rattle.curve.specs.Claimed.{LentClaim, amount_of, bound_over, claim_over, deviation_of, operation_of}
+use Rattle.curve.specs.Claimed.{amount_of, bound_over, claim_over, deviation_of, operation_of}
+use Rattle.curve.specs.Lending.{ThirdLent}
 use Rattle.search.specs.declared.Break.{Break}
 use Rattle.search.specs.declared.Compared.{Compared}
 use Rattle.search.specs.Found.{compared_from, compared_of, found_same}
@@ -44,7 +45,7 @@ abbrev pub break_of : Claim → Compared
 break_of c = first_of_tried c (tried c)
 
 pub record Judgeable (c : code.Claim) (f g h : Steps) (at : ℕ) : Type 0 where
-  pub lent : LentClaim c f g h
+  pub third : ThirdLent c h
   pub is_horizon : at ≡ horizon (claim_over c (curve_from f) (curve_from g) (curve_from h))
   pub within : at ≤ max_horizon
 
@@ -56,11 +57,9 @@ pub record Searched (f g h : Steps) (tried : ℕ) : Type 0 where
   pub within : tried ≤ max_horizon + 1
 
 -- kinds 5 and 7 alone, which have no claimed curve
-pub record LessAsked (x : deviation.Deviation) (f g : Steps) (at : ℕ) : Type 0 where
-  pub left : Lent f
-  pub right : Lent g
+pub record LessAsked (x : deviation.Deviation) (f g : Curve) (at : ℕ) : Type 0 where
   pub x_fits : amount_of x ≤ max_x
-  pub is_horizon : at ≡ horizon (bound_over x exactly (curve_from f) (curve_from g))
+  pub is_horizon : at ≡ horizon (bound_over x exactly f g)
   pub within : at ≤ max_horizon
 
 -- "in 4 and 5, f(s) and g(s+X); in 6 and 7, f(s) and g(s)+X": how much later, and how much more
@@ -81,9 +80,7 @@ abbrev pub first_above : Curve → Curve → ℕ → ℕ → ℕ → Compared
 first_above f g later more tried = compared_of (λ s. ltb (allowed_by g later more s) (value f s)) (value f) (allowed_by g later more) tried
 
 -- what such a search needs in order that all ticks and values fit
-pub record Comparable (f g : Steps) (later more tried : ℕ) : Type 0 where
-  pub left : Lent f
-  pub right : Lent g
+pub record Comparable (later more tried : ℕ) : Type 0 where
   pub later_fits : later ≤ max_x
   pub more_fits : more ≤ max_x
   pub within : tried ≤ max_horizon
@@ -145,10 +142,8 @@ less_nothing (Backlog x) = go (eqb x.0 0) refl
 
 -- kinds 4 to 7 are searched so
 module _ (x : deviation.Deviation) where
-  pub bound_comparable : {f g : Steps} {at : ℕ} → Lent f → Lent g → amount_of x ≤ max_x → at ≤ max_horizon → Comparable f g (later_by x) (more_by x) at
-  bound_comparable l l' fits near = record {
-    left = l;
-    right = l';
+  pub bound_comparable : {at : ℕ} → amount_of x ≤ max_x → at ≤ max_horizon → Comparable (later_by x) (more_by x) at
+  bound_comparable fits near = record {
     later_fits = omega (arith, fits, (by_fits x).0);
     more_fits = omega (arith, fits, (by_fits x).1);
     within = near;

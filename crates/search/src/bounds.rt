@@ -2,14 +2,14 @@
 ghost use Rattle.std.specs.Prelude.{◌≡◌, ◌≤◌};
 ghost use Rattle.minplus.specs.Claim.{at_most, max_x};
 ghost use Rattle.minplus.specs.Horizon.{max_horizon};
-ghost use Rattle.curve.specs.Steps.{Lent, curve_from};
-ghost use Rattle.curve.specs.Held.{steps_of};
 ghost use Rattle.curve.specs.Claimed.{amount_of, bound_over};
+ghost use Rattle.curve.specs.Lending.{curve_lent};
 ghost use Rattle.search.specs.Break.{Comparable, first_above, first_of_tried, later_by, more_by};
 
 use crate::{Break, Compared};
 use curve::walks::Walk;
-use curve::{Deviation, Held, Ticks, Units};
+use curve::lent::Lent;
+use curve::{Deviation, Ticks, Units};
 
 // Kinds 4 and 5: how many ticks later the right value is taken. A backlog's is not.
 fn later_by(deviation: Deviation) -> Ticks
@@ -33,12 +33,12 @@ fn more_by(deviation: Deviation) -> Units
 
 // The first of the `tried` ticks at which f is above what g is so many ticks later, and so many units more. Each of the
 // two is walked over, one rise a tick. The tick that the loop stops at is compared too.
-fn first_above(f: Held, g: Held, later: Ticks, more: Units, tried: usize) -> Compared
-    requires { Comparable (steps_of f) (steps_of g) later.0 more.0 tried }
-    ensures { result ≡ first_above (curve_from (steps_of f.entry)) (curve_from (steps_of g.entry)) later.0 more.0 tried }
+fn first_above(f: Lent, g: Lent, later: Ticks, more: Units, tried: usize) -> Compared
+    requires { Comparable later.0 more.0 tried }
+    ensures { result ≡ first_above (curve_lent f.entry) (curve_lent g.entry) later.0 more.0 tried }
 {
-    let mut arrived = Walk::start(f.form);
-    let mut served = Walk::at(g, later);
+    let mut arrived = Walk::start(f.held.form);
+    let mut served = Walk::at(g.held, later);
     for s in 0..tried {
         let value = arrived.value;
         let allowed = served.value.0 + more.0;
@@ -53,8 +53,8 @@ fn first_above(f: Held, g: Held, later: Ticks, more: Units, tried: usize) -> Com
                 ticks: Ticks(s as u32 + 1),
             };
         }
-        arrived = arrived.next(f);
-        served = served.next(g);
+        arrived = arrived.next(f.held);
+        served = served.next(g.held);
     }
     Compared {
         found: None,
@@ -63,9 +63,9 @@ fn first_above(f: Held, g: Held, later: Ticks, more: Units, tried: usize) -> Com
 }
 
 // The first of the `tried` ticks at which the left value is above the right one.
-pub fn first_over(deviation: Deviation, f: Held, g: Held, tried: usize) -> Compared
-    requires { Lent (steps_of f) × Lent (steps_of g) × (amount_of deviation ≤ max_x) × (tried ≤ max_horizon) }
-    ensures { result ≡ first_of_tried (bound_over deviation at_most (curve_from (steps_of f.entry)) (curve_from (steps_of g.entry))) tried }
+pub fn first_over(deviation: Deviation, f: Lent, g: Lent, tried: usize) -> Compared
+    requires { (amount_of deviation ≤ max_x) × (tried ≤ max_horizon) }
+    ensures { result ≡ first_of_tried (bound_over deviation at_most (curve_lent f.entry) (curve_lent g.entry)) tried }
 {
     let later = later_by(deviation);
     let more = more_by(deviation);

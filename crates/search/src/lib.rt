@@ -6,12 +6,12 @@ ghost use Rattle.std.specs.Prelude.{◌≡◌, ◌≤◌};
 ghost use Rattle.minplus.specs.Claim.{at_most, exactly, max_x};
 ghost use Rattle.minplus.specs.Horizon.{max_horizon};
 ghost use Rattle.minplus.specs.Verdict.{less_holds};
-ghost use Rattle.curve.specs.Steps.{Lent, curve_from};
-ghost use Rattle.curve.specs.Held.{steps_of};
 ghost use Rattle.curve.specs.Claimed.{amount_of, bound_over};
+ghost use Rattle.curve.specs.Lending.{curve_lent};
 ghost use Rattle.search.specs.Break.{LessAsked, first_of_tried, is_nowhere, less_of};
 
-use curve::{Deviation, Held, Ticks, Units};
+use curve::lent::Lent;
+use curve::{Deviation, Ticks, Units};
 
 pub mod bounds;
 pub mod results;
@@ -34,9 +34,9 @@ pub struct Compared {
 }
 
 // Kinds 4 to 7: no tried tick breaks the rule.
-fn holds(deviation: Deviation, f: Held, g: Held, horizon: usize) -> bool
-    requires { Lent (steps_of f) × Lent (steps_of g) × (amount_of deviation ≤ max_x) × (horizon ≤ max_horizon) }
-    ensures { result ≡ is_nowhere (first_of_tried (bound_over deviation at_most (curve_from (steps_of f.entry)) (curve_from (steps_of g.entry))) horizon).found }
+fn holds(deviation: Deviation, f: Lent, g: Lent, horizon: usize) -> bool
+    requires { (amount_of deviation ≤ max_x) × (horizon ≤ max_horizon) }
+    ensures { result ≡ is_nowhere (first_of_tried (bound_over deviation at_most (curve_lent f.entry) (curve_lent g.entry)) horizon).found }
 {
     first_over(deviation, f, g, horizon).found.is_none()
 }
@@ -58,9 +58,9 @@ fn less_of(deviation: Deviation) -> Option<Deviation>
 }
 
 // Kinds 5 and 7: X > 0, and no tried tick breaks the rule for X-1.
-pub fn less_holds(deviation: Deviation, f: Held, g: Held, horizon: usize) -> bool
-    requires { LessAsked deviation (steps_of f) (steps_of g) horizon }
-    ensures { result ≡ less_holds (bound_over deviation exactly (curve_from (steps_of f.entry)) (curve_from (steps_of g.entry))) }
+pub fn less_holds(deviation: Deviation, f: Lent, g: Lent, horizon: usize) -> bool
+    requires { LessAsked deviation (curve_lent f) (curve_lent g) horizon }
+    ensures { result ≡ less_holds (bound_over deviation exactly (curve_lent f.entry) (curve_lent g.entry)) }
 {
     match less_of(deviation) {
         Some(less) => holds(less, f, g, horizon),

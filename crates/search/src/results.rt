@@ -1,31 +1,32 @@
 // Kinds 1 and 2: three walks beside each other.
-ghost use Rattle.std.specs.Prelude.{◌≡◌, Bool};
+ghost use Rattle.std.specs.Prelude.{◌≡◌, ◌+◌, ◌≤◌, Bool};
 ghost use Rattle.minplus.specs.Claim.{equals};
-ghost use Rattle.curve.specs.Steps.{curve_from};
-ghost use Rattle.curve.specs.Held.{steps_of};
+ghost use Rattle.minplus.specs.Horizon.{max_horizon};
+ghost use Rattle.curve.specs.Lending.{curve_lent};
 ghost use Rattle.search.specs.Beside.{GivesBeside, TakesTwo, beside_of};
-ghost use Rattle.search.specs.Break.{Searched, first_of_tried};
+ghost use Rattle.search.specs.Break.{first_of_tried};
 
 use crate::{Break, Compared};
 use curve::walks::Walk;
-use curve::{Held, Ticks, Units};
+use curve::lent::Lent;
+use curve::{Ticks, Units};
 
 // The first of the `tried` ticks at which h differs from what is made of f and g there. The caller says what that is:
 // the smaller of two values, or their sum, which need not fit 32 bits. The tick that the loop stops at is compared too.
 pub fn first_unlike<B: Fn(u64, u64) -> u64>(
     beside: B,
-    f: Held,
-    g: Held,
-    h: Held,
+    f: Lent,
+    g: Lent,
+    h: Lent,
     tried: usize,
 ) -> Compared
-    requires searched { Searched (steps_of f) (steps_of g) (steps_of h) tried }
+    requires within { tried ≤ max_horizon + 1 }
     requires takes { TakesTwo (B.pre beside) }
-    ensures { (minimum : Bool) → GivesBeside minimum (B.post beside) → result ≡ first_of_tried (equals (beside_of minimum) (curve_from (steps_of f.entry)) (curve_from (steps_of g.entry)) (curve_from (steps_of h.entry))) tried }
+    ensures { (minimum : Bool) → GivesBeside minimum (B.post beside) → result ≡ first_of_tried (equals (beside_of minimum) (curve_lent f.entry) (curve_lent g.entry) (curve_lent h.entry)) tried }
 {
-    let mut one = Walk::start(f.form);
-    let mut other = Walk::start(g.form);
-    let mut said = Walk::start(h.form);
+    let mut one = Walk::start(f.held.form);
+    let mut other = Walk::start(g.held.form);
+    let mut said = Walk::start(h.held.form);
     for n in 0..tried {
         let first = one.value;
         let second = other.value;
@@ -42,9 +43,9 @@ pub fn first_unlike<B: Fn(u64, u64) -> u64>(
                 ticks: Ticks(n as u32 + 1),
             };
         }
-        one = one.next(f);
-        other = other.next(g);
-        said = said.next(h);
+        one = one.next(f.held);
+        other = other.next(g.held);
+        said = said.next(h.held);
     }
     Compared {
         found: None,

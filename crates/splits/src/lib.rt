@@ -1,17 +1,19 @@
 // Kind 3, the convolution: ticks and splits, nested.
 #![tactic(auto)]
 
-ghost use Rattle.std.specs.Prelude.{◌≡◌, true};
+ghost use Rattle.std.specs.Prelude.{◌≡◌, ◌+◌, ◌≤◌, true};
 ghost use Rattle.minplus.specs.Claim.{convolution, equals};
-ghost use Rattle.curve.specs.Steps.{Lent, curve_from};
+ghost use Rattle.minplus.specs.Horizon.{max_horizon};
 ghost use Rattle.curve.specs.Held.{steps_of};
-ghost use Rattle.search.specs.Break.{Searched, first_of_tried};
+ghost use Rattle.curve.specs.Lending.{curve_lent};
+ghost use Rattle.search.specs.Break.{first_of_tried};
 ghost use Rattle.splits.specs.Parts.{Carries, carried_in, carried_put, no_work};
 ghost use Rattle.splits.specs.Reach.{late_of, reach_of};
 ghost use Rattle.splits.specs.Splits.{Foldable};
 
+use curve::lent::Lent;
 use curve::walks::Walk;
-use curve::{Curve, Held, Ticks, Units};
+use curve::{Curve, Ticks, Units};
 use search::{Break, Compared};
 
 // What a search works in. What stands there before a search does not matter, and after it it is nobody's.
@@ -83,21 +85,21 @@ fn late_from(itself: bool, start: Ticks) -> usize
 // a period of f before, and c more. The tick that the loop stops at is compared too. It is made no part of its caller:
 // what its loops keep in registers then hangs on what stands around them, and it was seen half as slow again.
 #[inline(never)]
-fn first_split(itself: bool, f: Held, g: Held, h: Held, tried: usize, work: &mut Work) -> Compared
-    requires { Foldable itself (curve_from (steps_of f)) (curve_from (steps_of g)) work.old tried × Lent (steps_of h) }
-    ensures { result ≡ first_of_tried (equals convolution (curve_from (steps_of f.entry)) (curve_from (steps_of g.entry)) (curve_from (steps_of h.entry))) tried }
+fn first_split(itself: bool, f: Lent, g: Lent, h: Lent, tried: usize, work: &mut Work) -> Compared
+    requires { Foldable itself (curve_lent f) (curve_lent g) work.old tried }
+    ensures { result ≡ first_of_tried (equals convolution (curve_lent f.entry) (curve_lent g.entry) (curve_lent h.entry)) tried }
 {
-    let period = f.form.period.0 as usize;
-    let start = g.form.rank.0 as usize;
-    let span = g.form.period.0 as usize;
+    let period = f.held.form.period.0 as usize;
+    let start = g.held.form.rank.0 as usize;
+    let span = g.held.form.period.0 as usize;
     let count = start + span;
-    let settled = f.form.rank.0 as usize + period + count - 1;
-    let late = late_from(itself, g.form.rank);
+    let settled = f.held.form.rank.0 as usize + period + count - 1;
+    let late = late_from(itself, g.held.form.rank);
     let mut compared = Compared {
         found: None,
         ticks: Ticks(tried as u32),
     };
-    let mut walk = Walk::start(h.form);
+    let mut walk = Walk::start(h.held.form);
     let mut at: usize = 0;
     let mut added: u32 = 0;
     let mut turn: usize = 0;
@@ -122,7 +124,7 @@ fn first_split(itself: bool, f: Held, g: Held, h: Held, tried: usize, work: &mut
                 }
                 work.last[n] = last;
             }
-            due = due.min(work.carry(at, added, turn, g.form.increment, late + span <= n));
+            due = due.min(work.carry(at, added, turn, g.held.form.increment, late + span <= n));
             turn += 1;
             if turn == span {
                 turn = 0;
@@ -141,11 +143,11 @@ fn first_split(itself: bool, f: Held, g: Held, h: Held, tried: usize, work: &mut
             };
             break 'ticks;
         }
-        walk = walk.next(h);
+        walk = walk.next(h.held);
         at += 1;
         if at == settled {
             at = settled - period;
-            added += f.form.increment;
+            added += f.held.form.increment;
         }
     }
     compared
@@ -154,18 +156,19 @@ fn first_split(itself: bool, f: Held, g: Held, h: Held, tried: usize, work: &mut
 // The same of curves that are lent. Whoever knows the book says whether it is a curve with itself.
 pub fn first_apart(
     itself: bool,
-    f: Held,
-    g: Held,
-    h: Held,
+    f: Lent,
+    g: Lent,
+    h: Lent,
     tried: usize,
     work: &mut Work,
 ) -> Compared
-    requires { Searched (steps_of f) (steps_of g) (steps_of h) tried × (itself ≡ true → steps_of f ≡ steps_of g) }
-    ensures { result ≡ first_of_tried (equals convolution (curve_from (steps_of f.entry)) (curve_from (steps_of g.entry)) (curve_from (steps_of h.entry))) tried }
+    requires within { tried ≤ max_horizon + 1 }
+    requires one_curve { itself ≡ true → steps_of f.held ≡ steps_of g.held }
+    ensures { result ≡ first_of_tried (equals convolution (curve_lent f.entry) (curve_lent g.entry) (curve_lent h.entry)) tried }
 {
-    let count = g.form.rank.0 as usize + g.form.period.0 as usize;
-    let settled = f.form.rank.0 as usize + f.form.period.0 as usize + count - 1;
-    f.fill(&mut work.left[..settled]);
-    g.fill(&mut work.right[..count]);
+    let count = g.held.form.rank.0 as usize + g.held.form.period.0 as usize;
+    let settled = f.held.form.rank.0 as usize + f.held.form.period.0 as usize + count - 1;
+    f.held.fill(&mut work.left[..settled]);
+    g.held.fill(&mut work.right[..count]);
     first_split(itself, f, g, h, tried, work)
 }

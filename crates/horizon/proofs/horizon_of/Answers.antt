@@ -21,12 +21,17 @@ lent {s} same whole w =
 pub returns-then-not-well_formed_claim : goal.returns-then-not-well_formed_claim
 returns-then-not-well_formed_claim c = sym (horizon_none _ (sym c.well_formed_claim.ensures ∙ c.if-not-well_formed_claim.true))
 
-pub horizon_over-requires : goal.horizon_over-requires
-horizon_over-requires c =
+pub invariant_of-f : goal.invariant_of-f
+invariant_of-f c =
     let a = c.args in
     let well = (well_formed_claim_lem _).0 (sym c.well_formed_claim.ensures ∙ c.if-not-well_formed_claim.false) in
-    let two = two_well a.claim a.f.now a.g.now a.h.now well in
-    (lent c.held.ensures.steps c.held.ensures.room two.0, lent c.held-2.ensures.steps c.held-2.ensures.room two.1)
+    record { lent = lent c.held.ensures.steps c.held.ensures.room (two_well a.claim a.f.now a.g.now a.h.now well).0 }
+
+pub invariant_of-g : goal.invariant_of-g
+invariant_of-g c =
+    let a = c.args in
+    let well = (well_formed_claim_lem _).0 (sym c.well_formed_claim.ensures ∙ c.if-not-well_formed_claim.false) in
+    record { lent = lent c.held-2.ensures.steps c.held-2.ensures.room (two_well a.claim a.f.now a.g.now a.h.now well).1 }
 
 pub returns : goal.returns
 returns c =

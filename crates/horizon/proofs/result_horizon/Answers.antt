@@ -13,18 +13,18 @@ use Rattle.horizon.proofs.result_horizon.Goals as goal
 
 pub returns-then-n : goal.returns-then-n
 returns-then-n c =
-    let left : Curve = curve_from (steps_of c.args.f) in
-    let right : Curve = curve_from (steps_of c.args.g) in
+    let left : Curve = curve_from (steps_of c.args.f.held) in
+    let right : Curve = curve_from (steps_of c.args.g.held) in
     sym ((horizon_above _).1 (result_far (operation_of c.args.operation) left right (rates_of c.args.h) (omega (arith, c.n_by_rates-n.ensures, c.if-n.true))))
 
 pub returns : goal.returns
 unfolding H.common_period
 returns c =
-    let left : Curve = curve_from (steps_of c.args.f) in
-    let right : Curve = curve_from (steps_of c.args.g) in
+    let left : Curve = curve_from (steps_of c.args.f.held) in
+    let right : Curve = curve_from (steps_of c.args.g.held) in
     let op = operation_of c.args.operation in
     let D = c.common_period-period.ensures in
-    let even = c.even_rank.ensures ∙ ap (even_rank op c.args.f.form.rank.0 c.args.g.form.rank.0) D in
+    let even = c.even_rank.ensures ∙ ap (even_rank op c.args.f.held.form.rank.0 c.args.g.held.form.rank.0) D in
     let rank = c.max-rank.ensures ∙ ap₂ max even c.n_by_rates-n.ensures in
     let last = c.max.ensures ∙ ap (λ (r : ℕ). max r c.args.h.rank.0) rank in
     let period = c.full_period.ensures ∙ ap (λ (d : ℕ). capped (lcm d c.args.h.period.0)) D in

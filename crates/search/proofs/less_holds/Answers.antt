@@ -11,14 +11,14 @@ pub holds-requires : goal.holds-requires
 holds-requires c =
     let pre = c.requires in
     let less = less_some c.args.deviation (sym c.less_of.ensures ∙ c.in-Some.is) in
-    (pre.left, pre.right, omega (arith, less.2, pre.x_fits), pre.within)
+    (omega (arith, less.2, pre.x_fits), pre.within)
 
 pub returns-in-Some : goal.returns-in-Some
 returns-in-Some c =
     let a = c.args in
     let less = less_some a.deviation (sym c.less_of.ensures ∙ c.in-Some.is) in
     c.holds.ensures
-    ∙ ap₂ (λ (δ : Deviation) (X : ℕ). is_nowhere (first_of_tried (bounds δ at_most (curve_from (steps_of a.f)) (curve_from (steps_of a.g)) X) a.horizon).found) less.1 less.2
+    ∙ ap₂ (λ (δ : Deviation) (X : ℕ). is_nowhere (first_of_tried (bounds δ at_most (curve_from (steps_of a.f.held)) (curve_from (steps_of a.g.held)) X) a.horizon).found) less.1 less.2
     ∙ less_nowhere _ _ _ _ less.0 _ c.requires.is_horizon
 
 pub returns-in-None : goal.returns-in-None

@@ -69,8 +69,7 @@ Turn itself f g base work n due turn =
 
 pub ticks-init : goal.ticks-init
 ticks-init c =
-    let pre = c.requires in
-    (refl, (folds_none pre.0 (c.start-walk.ensures ∙ walk_starts (steps_of c.args.h) pre.1.well), below_none _))
+    (refl, (folds_none c.requires (c.start-walk.ensures ∙ walk_starts (steps_of c.args.h.held) c.args.h.lent.well), below_none _))
 
 pub loop-v-init : goal.loop-v-init
 loop-v-init c = (from_first _ _ _ _ _ _ _ 0 (omega arith) (omega arith) (omega arith) refl, omega arith)
@@ -81,10 +80,10 @@ loop-v-preserved c = (from_next c.loop-v.invariant.0 c.min-near.ensures, omega a
 pub overflow_add-due : goal.overflow_add-due
 overflow_add-due c =
     let a = c.args in
-    let f : Curve = curve_from (steps_of a.f) in
-    let g : Curve = curve_from (steps_of a.g) in
-    let ok : Foldable a.itself f g a.work.now a.tried = c.requires.0 in
-    let folds : Folds a.itself f g (steps_of a.h) a.work.now c.ticks.work c.ticks.walk c.ticks.n c.ticks.at c.ticks.added c.ticks.turn = c.ticks.invariant.1.0 in
+    let f : Curve = curve_from (steps_of a.f.held) in
+    let g : Curve = curve_from (steps_of a.g.held) in
+    let ok : Foldable a.itself f g a.work.now a.tried = c.requires in
+    let folds : Folds a.itself f g (steps_of a.h.held) a.work.now c.ticks.work c.ticks.walk c.ticks.n c.ticks.at c.ticks.added c.ticks.turn = c.ticks.invariant.1.0 in
     let n : ℕ = c.ticks.n in
     let near-kept : Holds a.itself f g a.work.now c.if-n-settled.work (min (n + 1) (settled_of f g)) (min n (settled_of f g)) n =
     elim c.if-n-settled.branch [
@@ -97,10 +96,10 @@ overflow_add-due c =
 pub overflow_add-last : goal.overflow_add-last
 overflow_add-last c =
     let a = c.args in
-    let f : Curve = curve_from (steps_of a.f) in
-    let g : Curve = curve_from (steps_of a.g) in
-    let ok : Foldable a.itself f g a.work.now a.tried = c.requires.0 in
-    let folds : Folds a.itself f g (steps_of a.h) a.work.now c.ticks.work c.ticks.walk c.ticks.n c.ticks.at c.ticks.added c.ticks.turn = c.ticks.invariant.1.0 in
+    let f : Curve = curve_from (steps_of a.f.held) in
+    let g : Curve = curve_from (steps_of a.g.held) in
+    let ok : Foldable a.itself f g a.work.now a.tried = c.requires in
+    let folds : Folds a.itself f g (steps_of a.h.held) a.work.now c.ticks.work c.ticks.walk c.ticks.n c.ticks.at c.ticks.added c.ticks.turn = c.ticks.invariant.1.0 in
     let n : ℕ = c.ticks.n in
     let near-kept : Holds a.itself f g a.work.now c.if-n-settled.work (min (n + 1) (settled_of f g)) (min n (settled_of f g)) n =
     elim c.if-n-settled.branch [
@@ -116,10 +115,10 @@ loop-v-then-n-settled-2-init c = (from_first _ _ _ _ _ _ _ _ (omega arith) (omeg
 pub overflow_add-work-in-loop-v-then-n-settled-2 : goal.overflow_add-work-in-loop-v-then-n-settled-2
 overflow_add-work-in-loop-v-then-n-settled-2 c =
     let a = c.args in
-    let f : Curve = curve_from (steps_of a.f) in
-    let g : Curve = curve_from (steps_of a.g) in
-    let ok : Foldable a.itself f g a.work.now a.tried = c.requires.0 in
-    let folds : Folds a.itself f g (steps_of a.h) a.work.now c.ticks.work c.ticks.walk c.ticks.n c.ticks.at c.ticks.added c.ticks.turn = c.ticks.invariant.1.0 in
+    let f : Curve = curve_from (steps_of a.f.held) in
+    let g : Curve = curve_from (steps_of a.g.held) in
+    let ok : Foldable a.itself f g a.work.now a.tried = c.requires in
+    let folds : Folds a.itself f g (steps_of a.h.held) a.work.now c.ticks.work c.ticks.walk c.ticks.n c.ticks.at c.ticks.added c.ticks.turn = c.ticks.invariant.1.0 in
     let n : ℕ = c.ticks.n in
     let near-kept : Holds a.itself f g a.work.now c.if-n-settled.work (min (n + 1) (settled_of f g)) (min n (settled_of f g)) n =
     elim c.if-n-settled.branch [
@@ -136,10 +135,10 @@ loop-v-then-n-settled-2-preserved c = (from_next c.loop-v-then-n-settled-2.invar
 pub carry-requires : goal.carry-requires
 carry-requires c =
     let a = c.args in
-    let f : Curve = curve_from (steps_of a.f) in
-    let g : Curve = curve_from (steps_of a.g) in
-    let ok : Foldable a.itself f g a.work.now a.tried = c.requires.0 in
-    let folds : Folds a.itself f g (steps_of a.h) a.work.now c.ticks.work c.ticks.walk c.ticks.n c.ticks.at c.ticks.added c.ticks.turn = c.ticks.invariant.1.0 in
+    let f : Curve = curve_from (steps_of a.f.held) in
+    let g : Curve = curve_from (steps_of a.g.held) in
+    let ok : Foldable a.itself f g a.work.now a.tried = c.requires in
+    let folds : Folds a.itself f g (steps_of a.h.held) a.work.now c.ticks.work c.ticks.walk c.ticks.n c.ticks.at c.ticks.added c.ticks.turn = c.ticks.invariant.1.0 in
     let n : ℕ = c.ticks.n in
     let near-kept : Holds a.itself f g a.work.now c.if-n-settled.work (min (n + 1) (settled_of f g)) (min n (settled_of f g)) n =
     elim c.if-n-settled.branch [
@@ -157,21 +156,21 @@ carry-requires c =
     carries ok late last-kept folds.placed folds.turned _ again (omega arith)
 
 pub next-walk-requires : goal.next-walk-requires
-next-walk-requires c = rw c.ticks.invariant.1.0.walked (walk_able c.requires.1 c.ticks.n (omega (arith, c.requires.0.within)))
+next-walk-requires c = rw c.ticks.invariant.1.0.walked (walk_able c.args.h.lent c.ticks.n (omega (arith, c.requires.within)))
 
 pub overflow_add-added : goal.overflow_add-added
 overflow_add-added c =
-    let pre = c.requires.0 in
+    let pre = c.requires in
     omega (arith, pre.gain_fits, pre.within, added_fits c.ticks.invariant.1.0.placed pre.left_period pre.gain_fits)
 
 pub ticks-preserved : goal.ticks-preserved
 unfolding breaks left_at right_at due
 ticks-preserved c =
     let a = c.args in
-    let f : Curve = curve_from (steps_of a.f) in
-    let g : Curve = curve_from (steps_of a.g) in
-    let ok : Foldable a.itself f g a.work.now a.tried = c.requires.0 in
-    let folds : Folds a.itself f g (steps_of a.h) a.work.now c.ticks.work c.ticks.walk c.ticks.n c.ticks.at c.ticks.added c.ticks.turn = c.ticks.invariant.1.0 in
+    let f : Curve = curve_from (steps_of a.f.held) in
+    let g : Curve = curve_from (steps_of a.g.held) in
+    let ok : Foldable a.itself f g a.work.now a.tried = c.requires in
+    let folds : Folds a.itself f g (steps_of a.h.held) a.work.now c.ticks.work c.ticks.walk c.ticks.n c.ticks.at c.ticks.added c.ticks.turn = c.ticks.invariant.1.0 in
     let n : ℕ = c.ticks.n in
     let near-kept : Holds a.itself f g a.work.now c.if-n-settled.work (min (n + 1) (settled_of f g)) (min n (settled_of f g)) n =
     elim c.if-n-settled.branch [
@@ -213,7 +212,7 @@ ticks-preserved c =
       | then-at-settled w ↦ rw (w.at-is, w.added-is) (placed_back folds.placed ok.left_period (omega (arith, ok.right_period)) w.if-at-settled.true)
       | else-at-settled w ↦ rw (w.at-is, w.added-is) (placed_next folds.placed (omega (arith, folds.placed.inside, w.if-at-settled.false)))
     ] in
-    let walked = walk_next c.requires.1 folds.walked c.next-walk.ensures (omega (arith, ok.within)) in (
+    let walked = walk_next c.args.h.lent folds.walked c.next-walk.ensures (omega (arith, ok.within)) in (
       c.ticks.invariant.0,
       (record { kept = turn.0; placed = placed; turned = turn.1.1; walked = walked }, below_more _ _ c.ticks.invariant.1.1 (rw (eq-eqb _ _ equal))),
     )
@@ -222,10 +221,10 @@ pub returns-then-due-value : goal.returns-then-due-value
 unfolding breaks left_at right_at due
 returns-then-due-value c =
     let a = c.args in
-    let f : Curve = curve_from (steps_of a.f) in
-    let g : Curve = curve_from (steps_of a.g) in
-    let ok : Foldable a.itself f g a.work.now a.tried = c.requires.0 in
-    let folds : Folds a.itself f g (steps_of a.h) a.work.now c.ticks.work c.ticks.walk c.ticks.n c.ticks.at c.ticks.added c.ticks.turn = c.ticks.invariant.1.0 in
+    let f : Curve = curve_from (steps_of a.f.held) in
+    let g : Curve = curve_from (steps_of a.g.held) in
+    let ok : Foldable a.itself f g a.work.now a.tried = c.requires in
+    let folds : Folds a.itself f g (steps_of a.h.held) a.work.now c.ticks.work c.ticks.walk c.ticks.n c.ticks.at c.ticks.added c.ticks.turn = c.ticks.invariant.1.0 in
     let n : ℕ = c.ticks.n in
     let near-kept : Holds a.itself f g a.work.now c.if-n-settled.work (min (n + 1) (settled_of f g)) (min n (settled_of f g)) n =
     elim c.if-n-settled.branch [

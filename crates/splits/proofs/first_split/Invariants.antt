@@ -21,8 +21,8 @@ invariant-loop-v-then-n-settled-2 l = LeastUpTo (λ i. get_or l.work.left i 0) (
 
 abbrev pub invariant-ticks : goal.invariant-ticks
 invariant-ticks l =
-    let f : Curve = curve_from (steps_of l.f) in
-    let g : Curve = curve_from (steps_of l.g) in
+    let f : Curve = curve_from (steps_of l.f.held) in
+    let g : Curve = curve_from (steps_of l.g.held) in
     (l.compared ≡ record { found = None; ticks = record { 0 = l.tried } })
-    × (Folds l.itself f g (steps_of l.h) l.initial.work l.work l.walk l.n l.at l.added l.turn
-    × ((k : ℕ) → k < l.n → breaks (equals convolution f g (curve_from (steps_of l.h))) k ≡ false))
+    × (Folds l.itself f g (steps_of l.h.held) l.initial.work l.work l.walk l.n l.at l.added l.turn
+    × ((k : ℕ) → k < l.n → breaks (equals convolution f g (curve_from (steps_of l.h.held))) k ≡ false))

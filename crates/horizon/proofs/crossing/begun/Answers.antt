@@ -11,13 +11,13 @@ begins : {s : Steps} {v : ℕ} → Lent s → v ≡ min (value_by s s.rank) most
 begins {s} lent is = is ∙ value-held s lent.well s.rank (omega (arith, rank_fits lent.well))
 
 pub overflow_mul-result : goal.overflow_mul-result
-overflow_mul-result c = rw (begins c.requires.1 c.value_at.ensures) (omega (arith, (begun_fits c.requires.0 c.requires.1).0))
+overflow_mul-result c = rw (begins c.args.g.lent c.value_at.ensures) (omega (arith, (begun_fits c.requires c.args.g.lent).0))
 
 pub returns : goal.returns
 returns c =
     let a = c.args in
-    let is = begins c.requires.1 c.value_at.ensures in
-    let fits = begun_fits c.requires.0 c.requires.1 in record {
-      result_value = ap (λ (v : ℕ). record { plus = a.f.period.0 * v; minus = a.f.increment * a.g.form.rank.0 }) is;
+    let is = begins c.args.g.lent c.value_at.ensures in
+    let fits = begun_fits c.requires c.args.g.lent in record {
+      result_value = ap (λ (v : ℕ). record { plus = a.f.period.0 * v; minus = a.f.increment * a.g.held.form.rank.0 }) is;
       small = record { plus_fits = rw is fits.0; minus_fits = fits.1 };
     }

@@ -11,7 +11,7 @@ use Rattle.horizon.proofs.crossing.extreme.Given as goal
 
 abbrev pub invariant-loop-i : goal.invariant-loop-i
 invariant-loop-i g l = record {
-  walk : l.walk ≡ walk_at (steps_of l.f) (l.start.0 + (l.i - 1));
-  kept : l.kept ≡ best g.choice (raised_at (value (curve_from (steps_of l.f))) l.rate.period l.rate.increment l.start.0 l.count) (l.i - 1);
+  walk : l.walk ≡ walk_at (steps_of l.f.held) (l.start.0 + (l.i - 1));
+  kept : l.kept ≡ best g.choice (raised_at (value (curve_from (steps_of l.f.held))) l.rate.period l.rate.increment l.start.0 l.count) (l.i - 1);
   fits : l.kept ≤ large;
 }

@@ -22,8 +22,8 @@ loop-s-init c =
     let pre = c.requires in
     let later : ℕ = c.args.later.0 in (
       (
-        c.start-arrived.ensures ∙ walk_starts (steps_of c.args.f) pre.left.well,
-        c.at-served.ensures ∙ walk_begins (steps_of c.args.g) pre.right.well later (omega (arith, pre.later_fits)) ∙ ap (walk_at (steps_of c.args.g)) (omega arith),
+        c.start-arrived.ensures ∙ walk_starts (steps_of c.args.f.held) c.args.f.lent.well,
+        c.at-served.ensures ∙ walk_begins (steps_of c.args.g.held) c.args.g.lent.well later (omega (arith, pre.later_fits)) ∙ ap (walk_at (steps_of c.args.g.held)) (omega arith),
       ),
       below_none _,
     )
@@ -35,7 +35,7 @@ overflow_add-allowed c =
     omega (
       arith,
       ap (λ (w : Walk). w.value.0) l.invariant.0.1,
-      value_at_most (curve_from (steps_of c.args.g)) pre.right.well (l.s + c.args.later.0),
+      value_at_most (curve_from (steps_of c.args.g.held)) c.args.g.lent.well (l.s + c.args.later.0),
       pre.within,
       pre.later_fits,
       pre.more_fits,
@@ -44,12 +44,12 @@ overflow_add-allowed c =
 pub next-arrived-requires : goal.next-arrived-requires
 next-arrived-requires c =
     let pre = c.requires in
-    rw c.loop-s.invariant.0.0 (walk_able pre.left c.loop-s.s (omega (arith, pre.within)))
+    rw c.loop-s.invariant.0.0 (walk_able c.args.f.lent c.loop-s.s (omega (arith, pre.within)))
 
 pub next-served-requires : goal.next-served-requires
 next-served-requires c =
     let pre = c.requires in
-    rw c.loop-s.invariant.0.1 (walk_able pre.right (c.loop-s.s + c.args.later.0) (omega (arith, pre.within, pre.later_fits)))
+    rw c.loop-s.invariant.0.1 (walk_able c.args.g.lent (c.loop-s.s + c.args.later.0) (omega (arith, pre.within, pre.later_fits)))
 
 pub loop-s-preserved : goal.loop-s-preserved
 loop-s-preserved c =
@@ -58,8 +58,8 @@ loop-s-preserved c =
     let later : ℕ = c.args.later.0 in
     let on : l.s + later + 1 ≡ l.s + 1 + later = omega arith in (
       (
-        walk_next pre.left l.invariant.0.0 c.next-arrived.ensures (omega (arith, pre.within)),
-        walk_next pre.right l.invariant.0.1 c.next-served.ensures (omega (arith, pre.within, pre.later_fits)) ∙ ap (walk_at (steps_of c.args.g)) on,
+        walk_next c.args.f.lent l.invariant.0.0 c.next-arrived.ensures (omega (arith, pre.within)),
+        walk_next c.args.g.lent l.invariant.0.1 c.next-served.ensures (omega (arith, pre.within, pre.later_fits)) ∙ ap (walk_at (steps_of c.args.g.held)) on,
       ),
       below_more _ _ l.invariant.1 (sym (tested _ _ _ _ l.invariant.0.0 l.invariant.0.1 c.args.more.0) ∙ le-ltb _ _ c.if-allowed-value.false),
     )

@@ -13,5 +13,5 @@ use Rattle.search.proofs.bounds.first_above.Given as goal
 abbrev pub invariant-loop-s : goal.invariant-loop-s
 invariant-loop-s l =
     let later : ℕ = l.fn.later.0 in
-    ((l.arrived ≡ walk_at (steps_of l.f) l.s) × (l.served ≡ walk_at (steps_of l.g) (l.s + later)))
-    × ((k : ℕ) → k < l.s → ltb (allowed_by (curve_from (steps_of l.g)) later l.more.0 k) (value (curve_from (steps_of l.f)) k) ≡ false)
+    ((l.arrived ≡ walk_at (steps_of l.f.held) l.s) × (l.served ≡ walk_at (steps_of l.g.held) (l.s + later)))
+    × ((k : ℕ) → k < l.s → ltb (allowed_by (curve_from (steps_of l.g.held)) later l.more.0 k) (value (curve_from (steps_of l.f.held)) k) ≡ false)

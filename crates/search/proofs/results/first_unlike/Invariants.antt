@@ -11,6 +11,6 @@ use Rattle.search.proofs.results.first_unlike.Given as goal
 
 abbrev pub invariant-loop-n : goal.invariant-loop-n
 invariant-loop-n g l =
-    ((l.one ≡ walk_at (steps_of l.f) l.n) × ((l.other ≡ walk_at (steps_of l.g) l.n) × (l.said ≡ walk_at (steps_of l.h) l.n)))
+    ((l.one ≡ walk_at (steps_of l.f.held) l.n) × ((l.other ≡ walk_at (steps_of l.g.held) l.n) × (l.said ≡ walk_at (steps_of l.h.held) l.n)))
     × ((minimum : Bool) → GivesBeside minimum (λ a b r. goal.B-post g l.beside a b r)
-    → (k : ℕ) → k < l.n → breaks (equals (beside_of minimum) (curve_from (steps_of l.f)) (curve_from (steps_of l.g)) (curve_from (steps_of l.h))) k ≡ false)
+    → (k : ℕ) → k < l.n → breaks (equals (beside_of minimum) (curve_from (steps_of l.f.held)) (curve_from (steps_of l.g.held)) (curve_from (steps_of l.h.held))) k ≡ false)

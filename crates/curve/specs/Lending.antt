@@ -1,0 +1,32 @@
+-- What is asked of curves that are lent with a claim, where the left and the right one are lent as such.
+--
+--     curve_lent     the curve that a lent one stands for
+--     ThirdLent      of kinds 1 to 3 the claimed curve is lent too; of kinds 4 to 7 X is within its limit, and the third
+--                    counts for nothing. With the two it is LentClaim (all_lent), which has it (third_lent)
+use Rattle.std.specs.Prelude.{◌≤◌}
+use Rattle.minplus.specs.Claim as C
+use Rattle.minplus.specs.Curve as M
+use Rattle.curve.specs.declared.lent.Lent as the
+use Rattle.curve.specs.declared.Claim.{Claim}
+use Rattle.curve.specs.declared.Claim.TheVariants.{Equals, AtMost, Exactly}
+use Rattle.curve.specs.Steps.{Steps, Lent, curve_from}
+use Rattle.curve.specs.Held.{steps_of}
+use Rattle.curve.specs.Claimed.{LentClaim, amount_of}
+
+abbrev pub curve_lent : the.Lent → M.Curve
+curve_lent f = curve_from (steps_of f.held)
+
+abbrev pub ThirdLent : Claim → Steps → Type 0
+ThirdLent (Equals o) h = Lent h
+ThirdLent (AtMost x) h = amount_of x ≤ C.max_x
+ThirdLent (Exactly x) h = amount_of x ≤ C.max_x
+
+pub all_lent : (c : Claim) (f g h : Steps) → Lent f → Lent g → ThirdLent c h → LentClaim c f g h
+all_lent (Equals o) f g h left right third = (left, right, third)
+all_lent (AtMost x) f g h left right third = (left, right, third)
+all_lent (Exactly x) f g h left right third = (left, right, third)
+
+pub third_lent : (c : Claim) (f g h : Steps) → LentClaim c f g h → ThirdLent c h
+third_lent (Equals o) f g h l = l.2
+third_lent (AtMost x) f g h l = l.2
+third_lent (Exactly x) f g h l = l.2
