@@ -24,7 +24,7 @@ use Rattle.minplus.specs.Recorded.{verdict_by}
 use Rattle.curve.specs.declared.Ticks.{Ticks}
 use Rattle.curve.specs.declared.Claim as code
 use Rattle.curve.specs.declared.Claim.TheVariants.{Equals, AtMost, Exactly}
-use Rattle.curve.specs.Steps.{Steps}
+use Rattle.curve.specs.Steps.{Steps, curve_from}
 use Rattle.curve.specs.Claimed.{claim_over}
 use Rattle.verdict.specs.declared.Verdict.{Verdict}
 use Rattle.verdict.specs.declared.Verdict.TheVariants.{Accepted, RefutedAt, RefutedByRate, NotLeast, NotJudged}
@@ -67,7 +67,7 @@ abbrev pub IsLater : C.Verdict → code.Claim → Curve → Curve → Type 0
 IsLater v claim f g = (h : Curve) → v ≡ later_code (claim_over claim f g h)
 
 -- kinds 5 and 7 alone ask for anything: whether X-1 is a bound
-abbrev pub LaterAsked : code.Claim → Steps → Steps → ℕ → Type 0
+abbrev pub LaterAsked : code.Claim → Curve → Curve → ℕ → Type 0
 LaterAsked (Equals o) f g at = Unit {0}
 LaterAsked (AtMost x) f g at = Unit {0}
 LaterAsked (Exactly x) f g at = LessAsked x f g at
@@ -131,7 +131,7 @@ record_near c near e = rw (e, le-ltb max_horizon (horizon c) near) (go (first_br
 pub later_is : (c : Claim) (rate less : Bool) → rate ≡ by_rate c → less ≡ less_holds c → codes_in_order c false none rate less ≡ later_code c
 later_is c rate less e e' = ap₂ (codes_in_order c false none) e e'
 
-pub later_asked : (c : code.Claim) {f g h : Steps} {at : ℕ} → Judgeable c f g h at → LaterAsked c f g at
+pub later_asked : (c : code.Claim) {f g h : Steps} {at : ℕ} → Judgeable c f g h at → LaterAsked c (curve_from f) (curve_from g) at
 later_asked (Equals o) j = tt
 later_asked (AtMost x) j = tt
-later_asked (Exactly x) j = record { left = j.lent.0; right = j.lent.1; x_fits = j.lent.2; is_horizon = j.is_horizon; within = j.within }
+later_asked (Exactly x) j = record { x_fits = j.third; is_horizon = j.is_horizon; within = j.within }

@@ -5,11 +5,13 @@ ghost use Rattle.std.specs.Prelude.{◌≡◌, true};
 ghost use Rattle.minplus.specs.Verdict.{not_judged, record_on, record_with};
 ghost use Rattle.curve.specs.Steps.{curve_from};
 ghost use Rattle.curve.specs.Held.{steps_of};
-ghost use Rattle.curve.specs.Claimed.{LentClaim, claim_of, claim_over};
+ghost use Rattle.curve.specs.Claimed.{claim_of, claim_over};
+ghost use Rattle.curve.specs.Lending.{ThirdLent, curve_lent};
 ghost use Rattle.search.specs.Break.{Judgeable, break_of};
 ghost use Rattle.verdict.specs.Given.{IsLater, LaterAsked, decided_of, judged_of, judgement, numbers_of, verdict_of};
 ghost use Rattle.verdict.specs.Codes.{code_by};
 
+use curve::lent::Lent;
 use curve::rates::slower;
 use curve::{Claim, Curve, Held, Operation, Ticks, Units};
 use horizon::horizon_over;
@@ -92,21 +94,25 @@ pub fn untried() -> Decided
 fn first_break(
     claim: Claim,
     itself: bool,
-    f: Held,
-    g: Held,
+    f: Lent,
+    g: Lent,
     h: Held,
     horizon: usize,
     work: &mut Work,
 ) -> Compared
-    requires { Judgeable claim (steps_of f) (steps_of g) (steps_of h) horizon × (itself ≡ true → steps_of f ≡ steps_of g) }
-    ensures { result ≡ break_of (claim_over claim (curve_from (steps_of f.entry)) (curve_from (steps_of g.entry)) (curve_from (steps_of h.entry))) }
+    requires judgeable { Judgeable claim (steps_of f.held) (steps_of g.held) (steps_of h) horizon }
+    requires one_curve { itself ≡ true → steps_of f.held ≡ steps_of g.held }
+    ensures { result ≡ break_of (claim_over claim (curve_lent f.entry) (curve_lent g.entry) (curve_from (steps_of h.entry))) }
 {
     match claim {
-        Claim::Equals(operation) => match operation {
-            Operation::Sum => first_unlike(|a, b| a + b, f, g, h, horizon + 1),
-            Operation::Minimum => first_unlike(u64::min, f, g, h, horizon + 1),
-            Operation::Convolution => first_apart(itself, f, g, h, horizon + 1, work),
-        },
+        Claim::Equals(operation) => {
+            let h = Lent { held: h };
+            match operation {
+                Operation::Sum => first_unlike(|a, b| a + b, f, g, h, horizon + 1),
+                Operation::Minimum => first_unlike(u64::min, f, g, h, horizon + 1),
+                Operation::Convolution => first_apart(itself, f, g, h, horizon + 1, work),
+            }
+        }
         Claim::AtMost(deviation) | Claim::Exactly(deviation) => {
             first_over(deviation, f, g, horizon)
         }
@@ -116,15 +122,15 @@ fn first_break(
 // The codes after the first break, in their order, of a claim that no tried tick breaks, whatever is claimed of its two
 // curves.
 #[tactic(auto, unfolding(minplus::specs::Verdict::codes_in_order, minplus::specs::Verdict::by_rate, minplus::specs::Verdict::less_holds))]
-fn later_code(claim: Claim, f: Held, g: Held, horizon: usize) -> Verdict
-    requires { LaterAsked claim (steps_of f) (steps_of g) horizon }
-    ensures { IsLater (verdict_of result) claim (curve_from (steps_of f.entry)) (curve_from (steps_of g.entry)) }
+fn later_code(claim: Claim, f: Lent, g: Lent, horizon: usize) -> Verdict
+    requires { LaterAsked claim (curve_lent f) (curve_lent g) horizon }
+    ensures { IsLater (verdict_of result) claim (curve_lent f.entry) (curve_lent g.entry) }
 {
     match claim {
         Claim::Equals(_) => Verdict::Accepted,
-        Claim::AtMost(_) if slower(g.form, f.form) => Verdict::RefutedByRate,
+        Claim::AtMost(_) if slower(g.held.form, f.held.form) => Verdict::RefutedByRate,
         Claim::AtMost(_) => Verdict::Accepted,
-        Claim::Exactly(_) if slower(g.form, f.form) => Verdict::RefutedByRate,
+        Claim::Exactly(_) if slower(g.held.form, f.held.form) => Verdict::RefutedByRate,
         Claim::Exactly(deviation) if less_holds(deviation, f, g, horizon) => Verdict::NotLeast,
         Claim::Exactly(_) => Verdict::Accepted,
     }
@@ -135,14 +141,15 @@ fn later_code(claim: Claim, f: Held, g: Held, horizon: usize) -> Verdict
 fn in_order(
     claim: Claim,
     itself: bool,
-    f: Held,
-    g: Held,
+    f: Lent,
+    g: Lent,
     h: Held,
     horizon: usize,
     work: &mut Work,
 ) -> Decided
-    requires { Judgeable claim (steps_of f) (steps_of g) (steps_of h) horizon × (itself ≡ true → steps_of f ≡ steps_of g) }
-    ensures { decided_of result ≡ record_on (claim_over claim (curve_from (steps_of f.entry)) (curve_from (steps_of g.entry)) (curve_from (steps_of h.entry))) }
+    requires judgeable { Judgeable claim (steps_of f.held) (steps_of g.held) (steps_of h) horizon }
+    requires one_curve { itself ≡ true → steps_of f.held ≡ steps_of g.held }
+    ensures { decided_of result ≡ record_on (claim_over claim (curve_lent f.entry) (curve_lent g.entry) (curve_from (steps_of h.entry))) }
 {
     let compared = first_break(claim, itself, f, g, h, horizon, work);
     let tried = compared.ticks;
@@ -159,13 +166,14 @@ fn in_order(
 pub fn verdict_over(
     claim: Claim,
     itself: bool,
-    f: Held,
-    g: Held,
+    f: Lent,
+    g: Lent,
     h: Held,
     work: &mut Work,
 ) -> Decided
-    requires { LentClaim claim (steps_of f) (steps_of g) (steps_of h) × (itself ≡ true → steps_of f ≡ steps_of g) }
-    ensures { decided_of result ≡ record_on (claim_over claim (curve_from (steps_of f.entry)) (curve_from (steps_of g.entry)) (curve_from (steps_of h.entry))) }
+    requires third { ThirdLent claim (steps_of h) }
+    requires one_curve { itself ≡ true → steps_of f.held ≡ steps_of g.held }
+    ensures { decided_of result ≡ record_on (claim_over claim (curve_lent f.entry) (curve_lent g.entry) (curve_from (steps_of h.entry))) }
 {
     let Some(horizon) = horizon_over(claim, f, g, h.form) else {
         return untried();
@@ -181,8 +189,10 @@ pub fn verdict_on(claim: Claim, f: &Curve, g: &Curve, h: &Curve) -> Result<Decid
     if !well_formed_claim(claim, f, g, h) {
         return Err(IllFormed);
     }
+    let f = Lent { held: f.held() };
+    let g = Lent { held: g.held() };
     let mut work = Work::new();
-    Ok(verdict_over(claim, false, f.held(), g.held(), h.held(), &mut work))
+    Ok(verdict_over(claim, false, f, g, h.held(), &mut work))
 }
 
 // A record in which all between the code and the ticks tried is 0.

@@ -10,22 +10,22 @@ pub returns-in-Sum : goal.returns-in-Sum
 returns-in-Sum c =
     let claim = c.in-Equals.is in
     let kind = c.in-Sum.is in
-    rw (claim, kind) (c.first_unlike.ensures false (λ a b r fits e. search rules) ∙ tried_result Sum (rw (claim, kind) at c.requires.0))
+    rw (claim, kind) (c.first_unlike.ensures false (λ a b r fits e. search rules) ∙ tried_result Sum (rw (claim, kind) at c.requires.judgeable))
 
 pub returns-in-Minimum : goal.returns-in-Minimum
 returns-in-Minimum c =
     let claim = c.in-Equals.is in
     let kind = c.in-Minimum.is in
-    rw (claim, kind) (c.first_unlike-in-Minimum.ensures true (λ a b r fits e. e) ∙ tried_result Minimum (rw (claim, kind) at c.requires.0))
+    rw (claim, kind) (c.first_unlike-in-Minimum.ensures true (λ a b r fits e. e) ∙ tried_result Minimum (rw (claim, kind) at c.requires.judgeable))
 
 pub returns-in-Convolution : goal.returns-in-Convolution
 returns-in-Convolution c =
     let claim = c.in-Equals.is in
     let kind = c.in-Convolution.is in
-    rw (claim, kind) (c.first_apart.ensures ∙ tried_result Convolution (rw (claim, kind) at c.requires.0))
+    rw (claim, kind) (c.first_apart.ensures ∙ tried_result Convolution (rw (claim, kind) at c.requires.judgeable))
 
 pub returns-in-AtMost : goal.returns-in-AtMost
 returns-in-AtMost c = elim c.in-AtMost.is [
-  | inl claim ↦ rw claim (c.first_over.ensures ∙ tried_bound _ (rw claim at c.requires.0))
-  | inr claim ↦ rw claim (c.first_over.ensures ∙ tried_exactly _ (rw claim at c.requires.0))
+  | inl claim ↦ rw claim (c.first_over.ensures ∙ tried_bound _ (rw claim at c.requires.judgeable))
+  | inr claim ↦ rw claim (c.first_over.ensures ∙ tried_exactly _ (rw claim at c.requires.judgeable))
 ]

@@ -21,15 +21,15 @@ recorded claim compared found few is e =
 
 pub returns-in-Some : goal.returns-in-Some
 returns-in-Some c =
-    let j = c.requires.0 in
+    let j = c.requires.judgeable in
     recorded _ c.first_break-compared.result _ (omega (arith, j.is_horizon, j.within)) c.in-Some.is c.first_break-compared.ensures
 
 pub later_code-verdict-requires : goal.later_code-verdict-requires
-later_code-verdict-requires c = later_asked c.args.claim c.requires.0
+later_code-verdict-requires c = later_asked c.args.claim c.requires.judgeable
 
 pub returns : goal.returns
 returns c =
-    let j = c.requires.0 in
+    let j = c.requires.judgeable in
     let compared = c.first_break-compared.result in
     ap (λ (v : C.Verdict). record_with v compared.ticks.0) (c.later_code-verdict.ensures _)
     ∙ recorded _ compared _ (omega (arith, j.is_horizon, j.within)) c.in_default.is c.first_break-compared.ensures

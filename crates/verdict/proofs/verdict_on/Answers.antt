@@ -6,7 +6,8 @@ use Rattle.minplus.specs.Claim.{well_formed_claim_lem}
 use Rattle.minplus.specs.Verdict.{record_on}
 use Rattle.curve.specs.Steps.{Steps, curve_from}
 use Rattle.curve.specs.Held.{steps_of}
-use Rattle.curve.specs.Claimed.{claim_lent, claim_of, claim_over}
+use Rattle.curve.specs.Claimed.{claim_lent, claim_of, claim_over, two_well}
+use Rattle.curve.specs.Lending.{copy_lent, third_lent}
 use Rattle.verdict.specs.Given.{judgement_none, judgement_some}
 use Rattle.verdict.proofs.verdict_on.Goals as goal
 
@@ -17,6 +18,18 @@ returns-then-not-well_formed_claim c = judgement_none _ (sym c.well_formed_claim
 whole : {s t : Steps} → s ≡ t → length s.rises ≡ 256 → length t.rises ≡ 256
 whole same room = sym (ap (λ (s : Steps). length s.rises) same) ∙ room
 
+pub invariant_of-f : goal.invariant_of-f
+invariant_of-f c =
+    let a = c.args in
+    let well = (well_formed_claim_lem _).0 (sym c.well_formed_claim.ensures ∙ c.if-not-well_formed_claim.false) in
+    record { lent = copy_lent c.held.ensures.steps c.held.ensures.room (two_well a.claim a.f.now a.g.now a.h.now well).0 }
+
+pub invariant_of-g : goal.invariant_of-g
+invariant_of-g c =
+    let a = c.args in
+    let well = (well_formed_claim_lem _).0 (sym c.well_formed_claim.ensures ∙ c.if-not-well_formed_claim.false) in
+    record { lent = copy_lent c.held-2.ensures.steps c.held-2.ensures.room (two_well a.claim a.f.now a.g.now a.h.now well).1 }
+
 pub verdict_over-requires : goal.verdict_over-requires
 verdict_over-requires c =
     let a = c.args in
@@ -25,7 +38,7 @@ verdict_over-requires c =
     let h = c.held-3.ensures in
     let well = (well_formed_claim_lem _).0 (sym c.well_formed_claim.ensures ∙ c.if-not-well_formed_claim.false) in
     let lent = claim_lent a.claim a.f.now a.g.now a.h.now (whole f.steps f.room) (whole g.steps g.room) (whole h.steps h.room) well in
-    (rw (f.steps, g.steps, h.steps) lent, λ said. absurd (false≢true said))
+    record { third = rw h.steps (third_lent a.claim _ _ _ lent); one_curve = λ said. absurd (false≢true said) }
 
 pub returns : goal.returns
 returns c =
