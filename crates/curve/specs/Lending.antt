@@ -2,7 +2,7 @@
 --
 --     curve_lent     the curve that a lent one stands for
 --     ThirdLent      of kinds 1 to 3 the claimed curve is lent too; of kinds 4 to 7 X is within its limit, and the third
---                    counts for nothing. With the two it is LentClaim (all_lent), which has it (third_lent)
+--                    counts for nothing. It is what LentClaim says of it (third_lent)
 --     copy_lent      a well-formed working copy that is lent
 use Rattle.std.specs.Prelude.{◌≡◌, ◌≤◌, length}
 use Rattle.std.proofs.Common.{arith}
@@ -23,11 +23,6 @@ abbrev pub ThirdLent : Claim → Steps → Type 0
 ThirdLent (Equals o) h = Lent h
 ThirdLent (AtMost x) h = amount_of x ≤ C.max_x
 ThirdLent (Exactly x) h = amount_of x ≤ C.max_x
-
-pub all_lent : (c : Claim) (f g h : Steps) → Lent f → Lent g → ThirdLent c h → LentClaim c f g h
-all_lent (Equals o) f g h left right third = (left, right, third)
-all_lent (AtMost x) f g h left right third = (left, right, third)
-all_lent (Exactly x) f g h left right third = (left, right, third)
 
 pub third_lent : (c : Claim) (f g h : Steps) → LentClaim c f g h → ThirdLent c h
 third_lent (Equals o) f g h l = l.2

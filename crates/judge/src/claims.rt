@@ -7,6 +7,7 @@ ghost use Rattle.judge.specs.Claims.{record_for};
 ghost use Rattle.judge.specs.Kept.{ClaimReady, claim_kept};
 
 use curve::Curve;
+use curve::lent::Lent;
 use field::places::claim_at;
 use splits::Work;
 use verdict::{Decided, untried, verdict_over};
@@ -20,8 +21,17 @@ pub(crate) fn decided_at(book: &[u8], place: usize, curves: &[Curve], work: &mut
     let Ok(stated) = claim_at(book, place, curves.len()) else {
         return untried();
     };
-    let f = curves[stated.left].held();
-    let g = curves[stated.right].held();
-    let h = curves[stated.claimed].held();
-    verdict_over(stated.claim, stated.left == stated.right, f, g, h, work)
+    let left = curves[stated.left].held();
+    let right = curves[stated.right].held();
+    let claimed = curves[stated.claimed].held();
+    let f = Lent { held: left };
+    let g = Lent { held: right };
+    verdict_over(
+        stated.claim,
+        stated.left == stated.right,
+        f,
+        g,
+        claimed,
+        work,
+    )
 }
