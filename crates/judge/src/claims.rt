@@ -21,17 +21,17 @@ pub(crate) fn decided_at(book: &[u8], place: usize, curves: &[Curve], work: &mut
     let Ok(stated) = claim_at(book, place, curves.len()) else {
         return untried();
     };
-    let left = curves[stated.left].held();
-    let right = curves[stated.right].held();
-    let claimed = curves[stated.claimed].held();
-    let f = Lent { held: left };
-    let g = Lent { held: right };
+    let f = curves[stated.left].held();
+    let g = curves[stated.right].held();
+    let h = curves[stated.claimed].held();
+    let left = Lent { held: f };
+    let right = Lent { held: g };
     verdict_over(
         stated.claim,
         stated.left == stated.right,
-        f,
-        g,
-        claimed,
+        left,
+        right,
+        h,
         work,
     )
 }
