@@ -1,8 +1,8 @@
 -- What is asked of curves that are lent with a claim, where the left and the right one are lent as such.
 --
 --     curve_lent     the curve that a lent one stands for
---     ThirdLent      of kinds 1 to 3 the claimed curve is lent too; of kinds 4 to 7 X is within its limit, and the third
---                    counts for nothing. It is what LentClaim says of it (third_lent)
+--     ThirdLent      what LentClaim asks beside the two (third_lent): of kinds 1 to 3 the claimed curve is lent too; of
+--                    kinds 4 to 7 X is within its limit, and the third counts for nothing
 --     copy_lent      a well-formed working copy that is lent
 use Rattle.std.specs.Prelude.{◌≡◌, ◌≤◌, length}
 use Rattle.std.proofs.Common.{arith}

@@ -7,8 +7,8 @@ ghost use Rattle.curve.specs.Lending.{curve_lent};
 ghost use Rattle.search.specs.Break.{Comparable, first_above, first_of_tried, later_by, more_by};
 
 use crate::{Break, Compared};
-use curve::walks::Walk;
 use curve::lent::Lent;
+use curve::walks::Walk;
 use curve::{Deviation, Ticks, Units};
 
 // Kinds 4 and 5: how many ticks later the right value is taken. A backlog's is not.

@@ -7,8 +7,8 @@ ghost use Rattle.search.specs.Beside.{GivesBeside, TakesTwo, beside_of};
 ghost use Rattle.search.specs.Break.{first_of_tried};
 
 use crate::{Break, Compared};
-use curve::walks::Walk;
 use curve::lent::Lent;
+use curve::walks::Walk;
 use curve::{Ticks, Units};
 
 // The first of the `tried` ticks at which h differs from what is made of f and g there. The caller says what that is:
