@@ -57,7 +57,8 @@ fn unproved(line: &str, functions: &[source::Function]) -> Option<(String, Strin
 fn function_in(name: &str, text: &str) -> Function {
     let (own, calls) = text.split_once("it calls ").unwrap_or((text, ""));
     let calls = quoted(calls).into_iter().filter_map(|path| path.strip_prefix(&format!("{name}::"))).map(str::to_string).collect();
-    let status = if own == "proved" {
+    // a closure is also "proved where its callers give what it asks"
+    let status = if own.starts_with("proved") {
         Status::Proved
     } else if let Some((_, left)) = own.split_once("did not prove ") {
         Status::Left(quoted(left).into_iter().map(str::to_string).collect())

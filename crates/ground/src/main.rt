@@ -23,16 +23,10 @@ fn judge(rt: &impl Print, claim: Claim, f: &Curve, g: &Curve, h: &Curve) -> io::
     }
     match verdict_on(claim, f, g, h) {
         Ok(decided) => {
-            let Record {
-                code,
-                tick,
-                left,
-                right,
-                tried,
-            } = Record::from(decided);
+            let r = Record::from(decided);
             println!(rt;
                 " record {} {} {} {} {}",
-                code as u8, tick.0, left.0, right.0, tried.0
+                r.code as u8, r.tick.0, r.left.0, r.right.0, r.tried.0
             )
         }
         Err(IllFormed) => println!(rt; " ill formed"),

@@ -77,8 +77,8 @@ fn claim(rt: &impl Print, bytes: &[u8], number: u64) -> io::Result<()> {
         Ok(book) => book,
         Err(reason) => return refused(rt, reason),
     };
-    let claims = book.places.claims;
-    let Some(place) = claims.iter().take(book.claims).nth(number as usize) else {
+    let mut claims = book.places.claims.iter().take(book.claims);
+    let Some(place) = claims.nth(number as usize) else {
         return print!(rt; " none");
     };
     let place = *place as usize;
