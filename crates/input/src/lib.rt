@@ -1,7 +1,7 @@
 // A stream or a file read into lent bytes, for the programs.
 #![tactic(auto)]
 
-ghost use Rattle.std.specs.Prelude.{◌<◌, IfOk, length, take};
+ghost use Rattle.std.specs.Prelude.{◌<◌, ◌≤◌, IfOk, IfSome, length, take};
 ghost use Rattle.std.specs.Io.{ReadsAtMost};
 ghost use Rattle.std.specs.Io.KnownBytes.{Consumes, IsAtEnd};
 
@@ -29,9 +29,11 @@ pub fn read_full<R: Read>(from: &mut R, buf: &mut [u8]) -> Result<usize>
     Ok(done)
 }
 
-// The bytes of a file, as many as there is room for. None where there is no such file; a name that is no text names
-// none.
-pub fn read_file<'a>(rt: &impl Files, name: &[u8], room: &'a mut [u8]) -> Result<Option<&'a [u8]>> {
+// Reads a file, as many bytes as there is room for, and answers how many were read. None where there is no such file; a
+// name that is no text names none.
+pub fn read_file(rt: &impl Files, name: &[u8], room: &mut [u8]) -> Result<Option<usize>>
+    ensures { IfOk result (λ read. IfSome read (λ n. n ≤ length room.new)) }
+{
     let Ok(name) = str::from_utf8(name) else {
         return Ok(None);
     };
@@ -39,5 +41,5 @@ pub fn read_file<'a>(rt: &impl Files, name: &[u8], room: &'a mut [u8]) -> Result
         return Ok(None);
     };
     let n = read_full(&mut file, room)?;
-    Ok(Some(&room[..n]))
+    Ok(Some(n))
 }

@@ -106,7 +106,7 @@ fn case(rt: &(impl Files + Print), question: &[u8]) -> io::Result<()> {
     let name = lines::find(question, 0, b' ');
     let mut room = [0u8; ROOM];
     match read_file(rt, &question[..name], &mut room)? {
-        Some(bytes) => answer(rt, question, name, bytes)?,
+        Some(n) => answer(rt, question, name, &room[..n])?,
         None => print!(rt; " missing")?,
     }
     println!(rt)

@@ -4,7 +4,6 @@ use content::{Refusal, Stated, Statement};
 use curve::{Claim, Curve, Deviation, Operation};
 use field::State;
 use field::places::claim_at;
-use std::iter;
 
 // Curves and claims with the place at which they begin.
 #[derive(Clone, Copy)]
@@ -19,13 +18,24 @@ pub(crate) const MOST_FIELDS: usize = State::MAX_CURVES + State::MAX_CLAIMS + 2;
 
 // The end stands also for every field past it.
 pub(crate) fn field_by(book: &Book, n: usize) -> Field {
-    let curves = book.places.curves.iter().take(book.curves);
-    let claims = book.places.claims.iter().take(book.claims);
-    iter::once(Field::Version)
-        .chain(curves.map(|place| Field::Curve(*place as usize)))
-        .chain(claims.map(|place| Field::Claim(*place as usize)))
-        .nth(n)
-        .unwrap_or(Field::End)
+    let Some(n) = n.checked_sub(1) else {
+        return Field::Version;
+    };
+    let found = match n.checked_sub(book.curves) {
+        None => book
+            .places
+            .curves
+            .get(n)
+            .map(|place| Field::Curve(*place as usize)),
+        Some(k) if k < book.claims => {
+            book.places
+                .claims
+                .get(k)
+                .map(|place| Field::Claim(*place as usize))
+        }
+        Some(_) => None,
+    };
+    found.unwrap_or(Field::End)
 }
 
 // A curve's values at the first 256 ticks.

@@ -96,7 +96,7 @@ fn case(rt: &(impl Files + Print), name: &[u8]) -> io::Result<()> {
     rt.write_all(name)?;
     let mut room = [0u8; ROOM];
     match read_file(rt, name, &mut room)? {
-        Some(bytes) => answer(rt, bytes)?,
+        Some(n) => answer(rt, &room[..n])?,
         None => print!(rt; " missing")?,
     }
     println!(rt)
