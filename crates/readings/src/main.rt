@@ -101,11 +101,12 @@ fn answer(rt: &impl Print, question: &[u8], name: usize, bytes: &[u8]) -> io::Re
     value(rt, bytes, first.value, tick.value)
 }
 
-fn case(rt: &(impl Files + Print), question: &[u8]) -> io::Result<()> {
+// The room that a file is read into is the run's: one made for each line would cost a line that names no file a third
+// more.
+fn case(rt: &(impl Files + Print), question: &[u8], room: &mut [u8]) -> io::Result<()> {
     rt.write_all(question)?;
     let name = lines::find(question, 0, b' ');
-    let mut room = [0u8; ROOM];
-    match read_file(rt, &question[..name], &mut room)? {
+    match read_file(rt, &question[..name], room)? {
         Some(n) => answer(rt, question, name, &room[..n])?,
         None => print!(rt; " missing")?,
     }
@@ -115,9 +116,10 @@ fn case(rt: &(impl Files + Print), question: &[u8]) -> io::Result<()> {
 fn main(rt: HostRuntime) -> io::Result<()> {
     let mut input = [0u8; INPUT];
     let n = read_full(&mut rt.stdin(), &mut input)?;
+    let mut room = [0; ROOM];
     for line in input[..n].split(|byte| *byte == b'\n') {
         if is_case(line) {
-            case(&rt, line)?;
+            case(&rt, line, &mut room)?;
         }
     }
     Ok(())

@@ -92,10 +92,11 @@ fn answer(rt: &impl Print, bytes: &[u8]) -> io::Result<()> {
     }
 }
 
-fn case(rt: &(impl Files + Print), name: &[u8]) -> io::Result<()> {
+// The room that a file is read into is the run's: one made for each line would cost a line that names no file a third
+// more.
+fn case(rt: &(impl Files + Print), name: &[u8], room: &mut [u8]) -> io::Result<()> {
     rt.write_all(name)?;
-    let mut room = [0u8; ROOM];
-    match read_file(rt, name, &mut room)? {
+    match read_file(rt, name, room)? {
         Some(n) => answer(rt, &room[..n])?,
         None => print!(rt; " missing")?,
     }
@@ -105,9 +106,10 @@ fn case(rt: &(impl Files + Print), name: &[u8]) -> io::Result<()> {
 fn main(rt: HostRuntime) -> io::Result<()> {
     let mut input = [0u8; INPUT];
     let n = read_full(&mut rt.stdin(), &mut input)?;
+    let mut room = [0; ROOM];
     for line in input[..n].split(|byte| *byte == b'\n') {
         if is_case(line) {
-            case(&rt, line)?;
+            case(&rt, line, &mut room)?;
         }
     }
     Ok(())
