@@ -11,15 +11,9 @@ use curve::lent::Lent;
 use curve::walks::Walk;
 use curve::{Ticks, Units};
 
-// The first of the `tried` ticks at which h differs from what is made of f and g there. The caller says what that is:
-// the smaller of two values, or their sum, which need not fit 32 bits. The tick that the loop stops at is compared too.
-pub fn first_unlike<B: Fn(u64, u64) -> u64>(
-    beside: B,
-    f: Lent,
-    g: Lent,
-    h: Lent,
-    tried: usize,
-) -> Compared
+// The first of the `tried` ticks at which h differs from what a closure makes of f and g there: the smaller of two
+// values, or their sum, which need not fit 32 bits. The tick that the loop stops at is compared too.
+fn first_by<B: Fn(u64, u64) -> u64>(beside: B, f: Lent, g: Lent, h: Lent, tried: usize) -> Compared
     requires within { tried ≤ max_horizon + 1 }
     requires takes { TakesTwo (B.pre beside) }
     ensures { (minimum : Bool) → GivesBeside minimum (B.post beside) → result ≡ first_of_tried (equals (beside_of minimum) (curve_lent f.entry) (curve_lent g.entry) (curve_lent h.entry)) tried }
@@ -50,5 +44,18 @@ pub fn first_unlike<B: Fn(u64, u64) -> u64>(
     Compared {
         found: None,
         ticks: Ticks(tried as u32),
+    }
+}
+
+// The first of the `tried` ticks at which h differs from the minimum, or the sum, of f and g. Which of the two is asked
+// once, and not at every tick: each has a loop of its own.
+pub fn first_unlike(minimum: bool, f: Lent, g: Lent, h: Lent, tried: usize) -> Compared
+    requires { tried ≤ max_horizon + 1 }
+    ensures { result ≡ first_of_tried (equals (beside_of minimum) (curve_lent f.entry) (curve_lent g.entry) (curve_lent h.entry)) tried }
+{
+    if minimum {
+        first_by(u64::min, f, g, h, tried)
+    } else {
+        first_by(|a, b| a + b, f, g, h, tried)
     }
 }

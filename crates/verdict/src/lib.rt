@@ -108,8 +108,8 @@ fn first_break(
         Claim::Equals(operation) => {
             let h = Lent { held: h };
             match operation {
-                Operation::Sum => first_unlike(|a, b| a + b, f, g, h, horizon + 1),
-                Operation::Minimum => first_unlike(u64::min, f, g, h, horizon + 1),
+                Operation::Sum => first_unlike(false, f, g, h, horizon + 1),
+                Operation::Minimum => first_unlike(true, f, g, h, horizon + 1),
                 Operation::Convolution => first_apart(itself, f, g, h, horizon + 1, work),
             }
         }

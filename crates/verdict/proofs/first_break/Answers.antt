@@ -1,7 +1,5 @@
 use mathlib.Core.Path.{◌∙◌}
 use mathlib.Core.Logic.{inl, inr}
-use mathlib.Core.Bool.{true, false}
-use Rattle.std.proofs.Common.{rules}
 use Rattle.curve.specs.declared.Operation.TheVariants.{Sum, Minimum, Convolution}
 use Rattle.search.specs.Break.{tried_bound, tried_exactly, tried_result}
 use Rattle.verdict.proofs.first_break.Goals as goal
@@ -10,13 +8,13 @@ pub returns-in-Sum : goal.returns-in-Sum
 returns-in-Sum c =
     let claim = c.in-Equals.is in
     let kind = c.in-Sum.is in
-    rw (claim, kind) (c.first_unlike.ensures false (λ a b r fits e. search rules) ∙ tried_result Sum (rw (claim, kind) at c.requires.judgeable))
+    rw (claim, kind) (c.first_unlike.ensures ∙ tried_result Sum (rw (claim, kind) at c.requires.judgeable))
 
 pub returns-in-Minimum : goal.returns-in-Minimum
 returns-in-Minimum c =
     let claim = c.in-Equals.is in
     let kind = c.in-Minimum.is in
-    rw (claim, kind) (c.first_unlike-in-Minimum.ensures true (λ a b r fits e. e) ∙ tried_result Minimum (rw (claim, kind) at c.requires.judgeable))
+    rw (claim, kind) (c.first_unlike-in-Minimum.ensures ∙ tried_result Minimum (rw (claim, kind) at c.requires.judgeable))
 
 pub returns-in-Convolution : goal.returns-in-Convolution
 returns-in-Convolution c =

@@ -7,7 +7,7 @@ use Rattle.curve.specs.Steps.{curve_from}
 use Rattle.curve.specs.Held.{steps_of}
 use Rattle.curve.specs.Walks.{walk_at}
 use Rattle.search.specs.Beside.{GivesBeside, beside_of}
-use Rattle.search.proofs.results.first_unlike.Given as goal
+use Rattle.search.proofs.results.first_by.Given as goal
 
 abbrev pub invariant-loop-n : goal.invariant-loop-n
 invariant-loop-n g l =
