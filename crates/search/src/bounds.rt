@@ -32,14 +32,16 @@ fn more_by(deviation: Deviation) -> Units
 }
 
 // The first of the `tried` ticks at which f is above what g is so many ticks later, and so many units more. Each of the
-// two is walked over, one rise a tick. The tick that the loop stops at is compared too.
+// two is walked over, one rise a tick. The loop counts the ticks that it compares, the one that it stops at included.
 fn first_above(f: Lent, g: Lent, later: Ticks, more: Units, tried: usize) -> Compared
     requires { Comparable later.0 more.0 tried }
     ensures { result ≡ first_above (curve_lent f.entry) (curve_lent g.entry) later.0 more.0 tried }
 {
     let mut arrived = Walk::start(f.held.form);
     let mut served = Walk::at(g.held, later);
+    let mut counted = Ticks(0);
     for s in 0..tried {
+        counted = Ticks(s as u32 + 1);
         let value = arrived.value;
         let allowed = served.value.0 + more.0;
         if allowed < value.0 {
@@ -50,7 +52,7 @@ fn first_above(f: Lent, g: Lent, later: Ticks, more: Units, tried: usize) -> Com
             };
             return Compared {
                 found: Some(found),
-                ticks: Ticks(s as u32 + 1),
+                ticks: counted,
             };
         }
         arrived = arrived.next(f.held);
@@ -58,7 +60,7 @@ fn first_above(f: Lent, g: Lent, later: Ticks, more: Units, tried: usize) -> Com
     }
     Compared {
         found: None,
-        ticks: Ticks(tried as u32),
+        ticks: counted,
     }
 }
 

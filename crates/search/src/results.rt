@@ -12,7 +12,8 @@ use curve::walks::Walk;
 use curve::{Ticks, Units};
 
 // The first of the `tried` ticks at which h differs from what a closure makes of f and g there: the smaller of two
-// values, or their sum, which need not fit 32 bits. The tick that the loop stops at is compared too.
+// values, or their sum, which need not fit 32 bits. The loop counts the ticks that it compares, the one that it stops at
+// included.
 fn first_by<B: Fn(u64, u64) -> u64>(beside: B, f: Lent, g: Lent, h: Lent, tried: usize) -> Compared
     requires within { tried ≤ max_horizon + 1 }
     requires takes { TakesTwo (B.pre beside) }
@@ -21,7 +22,9 @@ fn first_by<B: Fn(u64, u64) -> u64>(beside: B, f: Lent, g: Lent, h: Lent, tried:
     let mut one = Walk::start(f.held.form);
     let mut other = Walk::start(g.held.form);
     let mut said = Walk::start(h.held.form);
+    let mut counted = Ticks(0);
     for n in 0..tried {
+        counted = Ticks(n as u32 + 1);
         let first = one.value;
         let second = other.value;
         let value = said.value;
@@ -34,7 +37,7 @@ fn first_by<B: Fn(u64, u64) -> u64>(beside: B, f: Lent, g: Lent, h: Lent, tried:
             };
             return Compared {
                 found: Some(found),
-                ticks: Ticks(n as u32 + 1),
+                ticks: counted,
             };
         }
         one = one.next(f.held);
@@ -43,7 +46,7 @@ fn first_by<B: Fn(u64, u64) -> u64>(beside: B, f: Lent, g: Lent, h: Lent, tried:
     }
     Compared {
         found: None,
-        ticks: Ticks(tried as u32),
+        ticks: counted,
     }
 }
 

@@ -82,8 +82,9 @@ fn late_from(itself: bool, start: Ticks) -> usize
 // The first of the `tried` ticks at which h differs from the convolution of f and g, whose values stand in the working
 // numbers. Only splits that g lists are tried, as a later one is carried over g's periods, and of a curve with itself
 // only the smaller half; and from the tick `settled` on, past the first periods of both, none is, as all is what it was
-// a period of f before, and c more. The tick that the loop stops at is compared too. It is made no part of its caller:
-// what its loops keep in registers then hangs on what stands around them, and it was seen half as slow again.
+// a period of f before, and c more. The loop counts the ticks that it compares, the one that it stops at included. It is
+// made no part of its caller: what its loops keep in registers then hangs on what stands around them, and it was seen
+// half as slow again.
 #[inline(never)]
 fn first_split(itself: bool, f: Lent, g: Lent, h: Lent, tried: usize, work: &mut Work) -> Compared
     requires { Foldable itself (curve_lent f) (curve_lent g) work.old tried }
@@ -97,13 +98,14 @@ fn first_split(itself: bool, f: Lent, g: Lent, h: Lent, tried: usize, work: &mut
     let late = late_from(itself, g.held.form.rank);
     let mut compared = Compared {
         found: None,
-        ticks: Ticks(tried as u32),
+        ticks: Ticks(0),
     };
     let mut walk = Walk::start(h.held.form);
     let mut at: usize = 0;
     let mut added: u32 = 0;
     let mut turn: usize = 0;
     'ticks: for n in 0..tried {
+        compared.ticks = Ticks(n as u32 + 1);
         let reached = reach(itself, n);
         if n < settled {
             let mut near = work.left[n] + work.right[0];
@@ -132,15 +134,11 @@ fn first_split(itself: bool, f: Lent, g: Lent, h: Lent, tried: usize, work: &mut
         }
         let value = walk.value;
         if due as u64 != value.0 {
-            let found = Break {
+            compared.found = Some(Break {
                 tick: Ticks(n as u32),
                 left: Units(due as u64),
                 right: value,
-            };
-            compared = Compared {
-                found: Some(found),
-                ticks: Ticks(n as u32 + 1),
-            };
+            });
             break 'ticks;
         }
         walk = walk.next(h.held);

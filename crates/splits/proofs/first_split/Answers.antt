@@ -4,6 +4,7 @@ use Prim.Native.Nat.{ℕ, ◌+◌, ◌-◌, ◌≤◌, ◌<◌, min, max}
 use mathlib.Core.Path.{◌≡◌, refl, sym, ap, ◌∙◌}
 use mathlib.Core.Bool.{Bool}
 use native.Mathlib.Omega.{arith}
+use Rattle.std.specs.Prelude.{None}
 use lib.Dec.{leb}
 use lib.ListN.{get_or}
 use borrow.Author.Count.{below_more, below_none}
@@ -16,6 +17,7 @@ use Rattle.curve.specs.Steps.{curve_from}
 use Rattle.curve.specs.Held.{steps_of}
 use Rattle.curve.specs.declared.walks.Walk.{Walk}
 use Rattle.curve.specs.Walks.{walk_able, walk_next, walk_starts}
+use Rattle.search.specs.declared.Compared.{Compared}
 use Rattle.search.specs.Found.{found_at, found_nowhere}
 use Rattle.splits.specs.declared.Work.{Work}
 use Rattle.splits.specs.Parts.{carried_in, carried_put, last_put, near_put}
@@ -213,7 +215,7 @@ ticks-preserved c =
       | else-at-settled w ↦ rw (w.at-is, w.added-is) (placed_next folds.placed (omega (arith, folds.placed.inside, w.if-at-settled.false)))
     ] in
     let walked = walk_next c.args.h.lent folds.walked c.next-walk.ensures (omega (arith, ok.within)) in (
-      c.ticks.invariant.0,
+      ap (λ (x : Compared). record { found = x.found; ticks = record { 0 = n + 1 } }) c.ticks.invariant.0,
       (record { kept = turn.0; placed = placed; turned = turn.1.1; walked = walked }, below_more _ _ c.ticks.invariant.1.1 (rw (eq-eqb _ _ equal))),
     )
 
@@ -265,4 +267,6 @@ returns-then-due-value c =
 
 pub returns-after-ticks : goal.returns-after-ticks
 unfolding breaks left_at right_at due
-returns-after-ticks c = c.ticks.invariant.0 ∙ found_nowhere _ _ _ _ c.ticks.n (omega arith) c.ticks.invariant.1.1
+returns-after-ticks c =
+    let last : c.ticks.n ≡ c.args.tried = omega arith in
+    c.ticks.invariant.0 ∙ ap (λ (n : ℕ). record { found = None; ticks = record { 0 = n } }) last ∙ found_nowhere _ _ _ _ c.ticks.n (omega arith) c.ticks.invariant.1.1

@@ -1,5 +1,5 @@
--- A turn of the outer loop has found nothing yet, and `Folds` says where it stands. Both inner loops have the invariant
--- `LeastUpTo`.
+-- A turn of the outer loop has found nothing yet and has counted the ticks before it, and `Folds` says where it stands.
+-- Both inner loops have the invariant `LeastUpTo`.
 use Prim.Native.Nat.{ℕ, ◌+◌, ◌≤◌, ◌<◌, max}
 use mathlib.Core.Path.{◌≡◌}
 use mathlib.Core.Bool.{false}
@@ -23,6 +23,6 @@ abbrev pub invariant-ticks : goal.invariant-ticks
 invariant-ticks l =
     let f : Curve = curve_from (steps_of l.f.held) in
     let g : Curve = curve_from (steps_of l.g.held) in
-    (l.compared ≡ record { found = None; ticks = record { 0 = l.tried } })
+    (l.compared ≡ record { found = None; ticks = record { 0 = l.n } })
     × (Folds l.itself f g (steps_of l.h.held) l.initial.work l.work l.walk l.n l.at l.added l.turn
     × ((k : ℕ) → k < l.n → breaks (equals convolution f g (curve_from (steps_of l.h.held))) k ≡ false))

@@ -1,5 +1,5 @@
 use Prim.Native.Nat.{ℕ, ◌+◌}
-use mathlib.Core.Path.{◌≡◌, sym, ap, ap₂, ◌∙◌}
+use mathlib.Core.Path.{◌≡◌, refl, sym, ap, ap₂, ◌∙◌}
 use native.Mathlib.Omega.{arith}
 use lib.Dec.{ltb}
 use borrow.Author.Count.{below_more, below_none}
@@ -25,7 +25,7 @@ loop-s-init c =
         c.start-arrived.ensures ∙ walk_starts (steps_of c.args.f.held) c.args.f.lent.well,
         c.at-served.ensures ∙ walk_begins (steps_of c.args.g.held) c.args.g.lent.well later (omega (arith, pre.later_fits)) ∙ ap (walk_at (steps_of c.args.g.held)) (omega arith),
       ),
-      below_none _,
+      (refl, below_none _),
     )
 
 pub overflow_add-allowed : goal.overflow_add-allowed
@@ -61,7 +61,7 @@ loop-s-preserved c =
         walk_next c.args.f.lent l.invariant.0.0 c.next-arrived.ensures (omega (arith, pre.within)),
         walk_next c.args.g.lent l.invariant.0.1 c.next-served.ensures (omega (arith, pre.within, pre.later_fits)) ∙ ap (walk_at (steps_of c.args.g.held)) on,
       ),
-      below_more _ _ l.invariant.1 (sym (tested _ _ _ _ l.invariant.0.0 l.invariant.0.1 c.args.more.0) ∙ le-ltb _ _ c.if-allowed-value.false),
+      (refl, below_more _ _ l.invariant.1.1 (sym (tested _ _ _ _ l.invariant.0.0 l.invariant.0.1 c.args.more.0) ∙ le-ltb _ _ c.if-allowed-value.false)),
     )
 
 pub returns-then-allowed-value : goal.returns-then-allowed-value
@@ -70,9 +70,12 @@ returns-then-allowed-value c =
     found_at _ _ _ _ l.s
     (ap (λ (w : Walk). w.value.0) l.invariant.0.0)
     (ap (λ (w : Walk). w.value.0 + c.args.more.0) l.invariant.0.1)
-    l.invariant.1
+    l.invariant.1.1
     (sym (tested _ _ _ _ l.invariant.0.0 l.invariant.0.1 c.args.more.0) ∙ lt-ltb _ _ c.if-allowed-value.true)
     (omega arith)
 
 pub returns : goal.returns
-returns c = found_nowhere _ _ _ _ c.loop-s.s (omega arith) c.loop-s.invariant.1
+returns c =
+    let l = c.loop-s in
+    let last : l.s ≡ c.args.tried = omega arith in
+    rw (l.invariant.1.0 ∙ ap (λ (n : ℕ). record { 0 = n }) last) (found_nowhere _ _ _ _ l.s (omega arith) l.invariant.1.1)

@@ -1,6 +1,6 @@
 use Prim.Native.Nat.{ℕ, ◌+◌, ◌≤◌, ◌<◌}
 use mathlib.Core.Bool.{Bool}
-use mathlib.Core.Path.{◌≡◌, sym, ap, ap₂, ◌∙◌}
+use mathlib.Core.Path.{◌≡◌, refl, sym, ap, ap₂, ◌∙◌}
 use native.Mathlib.Omega.{arith}
 use borrow.Author.Count.{below_more, below_none}
 use borrow.Author.Tests.{eq-eqb, ne_eqb}
@@ -43,7 +43,7 @@ loop-n-init g c =
         c.start-one.ensures ∙ walk_starts (steps_of a.f.held) a.f.lent.well,
         (c.start-other.ensures ∙ walk_starts (steps_of a.g.held) a.g.lent.well, c.start-said.ensures ∙ walk_starts (steps_of a.h.held) a.h.lent.well),
       ),
-      λ minimum gives. below_none _,
+      (refl, λ minimum gives. below_none _),
     )
 
 pub beside-due-requires : goal.beside-due-requires
@@ -70,10 +70,13 @@ loop-n-preserved g c =
         walk_next c.args.f.lent walks.0 c.next-one.ensures (omega (arith, c.requires.within)),
         (walk_next c.args.g.lent walks.1.0 c.next-other.ensures (omega (arith, c.requires.within)), walk_next c.args.h.lent walks.1.1 c.next-said.ensures (omega (arith, c.requires.within))),
       ),
-      λ minimum gives.
-          let fits : l.one.value.0 + l.other.value.0 ≤ most = sum_fits c.args.f.lent c.args.g.lent l.n _ c.requires.within walks.0 walks.1.0 (omega arith) in
-          let is = due_is _ _ _ minimum (gives _ _ _ fits c.beside-due.ensures) walks.0 walks.1.0 in
-          below_more _ _ (l.invariant.1 minimum gives) (rw (eq-eqb _ _ (sym is ∙ c.if-due-value.false ∙ ap (λ (w : Walk). w.value.0) walks.1.1))),
+      (
+        refl,
+        λ minimum gives.
+            let fits : l.one.value.0 + l.other.value.0 ≤ most = sum_fits c.args.f.lent c.args.g.lent l.n _ c.requires.within walks.0 walks.1.0 (omega arith) in
+            let is = due_is _ _ _ minimum (gives _ _ _ fits c.beside-due.ensures) walks.0 walks.1.0 in
+            below_more _ _ (l.invariant.1.1 minimum gives) (rw (eq-eqb _ _ (sym is ∙ c.if-due-value.false ∙ ap (λ (w : Walk). w.value.0) walks.1.1))),
+      ),
     )
 
 pub returns-then-due-value : goal.returns-then-due-value
@@ -85,9 +88,12 @@ returns-then-due-value g c =
     let fits : l.one.value.0 + l.other.value.0 ≤ most = sum_fits c.args.f.lent c.args.g.lent l.n _ c.requires.within walks.0 walks.1.0 (omega arith) in
     let e = due_is _ _ _ minimum (gives _ _ _ fits c.beside-due.ensures) walks.0 walks.1.0 in
     let value-is = ap (λ (w : Walk). w.value.0) walks.1.1 in
-    found_at _ _ _ _ l.n e value-is (l.invariant.1 minimum gives)
+    found_at _ _ _ _ l.n e value-is (l.invariant.1.1 minimum gives)
     (rw (ne_eqb _ _ (λ same. c.if-due-value.true (e ∙ same ∙ sym value-is)))) (omega arith)
 
 pub returns : goal.returns
 unfolding breaks left_at right_at
-returns g c = λ minimum gives. found_nowhere _ _ _ _ c.loop-n.n (omega arith) (c.loop-n.invariant.1 minimum gives)
+returns g c =
+    let l = c.loop-n in
+    let last : l.n ≡ c.args.tried = omega arith in
+    λ minimum gives. rw (l.invariant.1.0 ∙ ap (λ (n : ℕ). record { 0 = n }) last) (found_nowhere _ _ _ _ l.n (omega arith) (l.invariant.1.1 minimum gives))

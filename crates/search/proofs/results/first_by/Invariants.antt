@@ -12,5 +12,6 @@ use Rattle.search.proofs.results.first_by.Given as goal
 abbrev pub invariant-loop-n : goal.invariant-loop-n
 invariant-loop-n g l =
     ((l.one ≡ walk_at (steps_of l.f.held) l.n) × ((l.other ≡ walk_at (steps_of l.g.held) l.n) × (l.said ≡ walk_at (steps_of l.h.held) l.n)))
+    × ((l.counted ≡ record { 0 = l.n })
     × ((minimum : Bool) → GivesBeside minimum (λ a b r. goal.B-post g l.beside a b r)
-    → (k : ℕ) → k < l.n → breaks (equals (beside_of minimum) (curve_from (steps_of l.f.held)) (curve_from (steps_of l.g.held)) (curve_from (steps_of l.h.held))) k ≡ false)
+    → (k : ℕ) → k < l.n → breaks (equals (beside_of minimum) (curve_from (steps_of l.f.held)) (curve_from (steps_of l.g.held)) (curve_from (steps_of l.h.held))) k ≡ false))
