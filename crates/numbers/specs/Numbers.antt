@@ -2,6 +2,8 @@
 --
 --     number_after      a list of bytes as one number, after a number that stands before it
 --     number_at w s i   the number in the w bytes from place i of s; 0 where they are not all there
+--     number_within w s i           the same of at most eight bytes, which 64 bits have room for (number_fits); of more
+--                                   it is 0
 --     number_whole, number_torn     number_at, by whether they are all there
 --     number_split      w + v bytes are w bytes and v bytes after them (after-append); number_byte: one byte
 use Rattle.std.specs.Prelude.{ℕ, ◌+◌, ◌*◌, ◌^◌, ◌≤◌, ◌<◌, ◌≡◌, refl, true, false, List, [], ◌∷◌, ◌++◌, length, take, drop, get_or, leb}
@@ -17,7 +19,13 @@ unfoldable pub number_at : ℕ → List ℕ → ℕ → ℕ
 unfolding number_after
 number_at w s i = elim (leb (i + w) (length s)) [ true ↦ number_after 0 (take w (drop i s)) | false ↦ 0 ]
 
+abbrev pub number_within : ℕ → List ℕ → ℕ → ℕ
+number_within w s i = elim (leb w 8) [ true ↦ number_at w s i | false ↦ 0 ]
+
 -- ---- laws
+
+pub number_fits : (w i : ℕ) (s : List ℕ) → w ≤ 8 → number_within w s i ≡ number_at w s i
+number_fits w i s fits = rw (le-leb w 8 fits, number_within)
 
 pub number_whole : (w i : ℕ) (s : List ℕ) → i + w ≤ length s → number_at w s i ≡ number_after 0 (take w (drop i s))
 unfolding number_at

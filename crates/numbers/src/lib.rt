@@ -1,16 +1,18 @@
 // Numbers in bytes, high byte first. Where the bytes end before the number does, it is 0.
 #![tactic(auto)]
 
-ghost use Rattle.std.specs.Prelude.{◌≡◌, ◌<◌, ◌≤◌, ◌^◌};
-ghost use Rattle.numbers.specs.Numbers.{number_at};
+ghost use Rattle.std.specs.Prelude.{◌≡◌, ◌<◌, ◌^◌};
+ghost use Rattle.numbers.specs.Numbers.{number_within};
 ghost use Rattle.numbers.specs.Put.{put_whole, bytes_of};
 
-// The number in the `W` bytes from `at` on. Nine bytes and more may not fit in its 64 bits.
+// The number in the `W` bytes from `at` on. Nine bytes and more may not fit in its 64 bits, and are read as 0.
 pub fn number<const W: usize>(bytes: &[u8], at: usize) -> u64
-    requires { W ≤ 8 }
-    ensures value { result ≡ number_at W bytes.now at }
+    ensures value { result ≡ number_within W bytes.now at }
     ensures upper_bound { result < 256 ^ W }
 {
+    if 8 < W {
+        return 0;
+    }
     let length = bytes.len();
     if length < W || length - W < at {
         return 0;

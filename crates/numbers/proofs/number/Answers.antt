@@ -1,16 +1,21 @@
 use Rattle.std.specs.Prelude.{ℕ, ◌+◌, ◌-◌, ◌*◌, ◌^◌, ◌≤◌, ◌<◌, ◌≡◌, refl, List, length, take, drop}
 use Rattle.std.proofs.Common.{sym, ap, ◌∙◌, arith, length-drop, length-take-le, take_all}
 use Rattle.std.proofs.Math.Nat.{one-le-pow, pow-le-pow_right}
-use Rattle.numbers.specs.Numbers.{number_after, number_torn, number_whole}
+use Rattle.numbers.specs.Numbers.{number_after, number_torn, number_whole, number_fits}
 use Rattle.numbers.proofs.HighFirst.{after_byte, room_for_byte}
 use Rattle.numbers.proofs.number.Goals as goal
 use Rattle.numbers.proofs.number.Goals.{then-length-via-then-length, then-length-via-else-length+then-length-at}
 
+pub returns-then-this-gt8-clause-upper_bound : goal.returns-then-this-gt8-clause-upper_bound
+returns-then-this-gt8-clause-upper_bound g c = one-le-pow g.row.W 256 (omega arith)
+
 pub returns-then-length-clause-value : goal.returns-then-length-clause-value
-returns-then-length-clause-value g c = elim c.then-length.branch [
-  | then-length-via-then-length w ↦ sym (number_torn g.row.W c.args.at c.args.bytes.now (omega arith))
-  | then-length-via-else-length+then-length-at w ↦ sym (number_torn g.row.W c.args.at c.args.bytes.now (omega arith))
-]
+returns-then-length-clause-value g c =
+    let within = sym (number_fits g.row.W c.args.at c.args.bytes.now (omega arith)) in
+    elim c.then-length.branch [
+      | then-length-via-then-length w ↦ sym (number_torn g.row.W c.args.at c.args.bytes.now (omega arith)) ∙ within
+      | then-length-via-else-length+then-length-at w ↦ sym (number_torn g.row.W c.args.at c.args.bytes.now (omega arith)) ∙ within
+    ]
 
 pub returns-then-length-clause-upper_bound : goal.returns-then-length-clause-upper_bound
 returns-then-length-clause-upper_bound g c = one-le-pow g.row.W 256 (omega arith)
@@ -59,6 +64,7 @@ returns-clause-value g c =
     let all : take l.byte-index (take (c.args.at + g.row.W - c.args.at) (drop c.args.at c.args.bytes.now)) ≡ take g.row.W (drop c.args.at c.args.bytes.now) =
     take_all l.byte-index _ (omega arith) ∙ ap (λ (n : ℕ). take n (drop c.args.at c.args.bytes.now)) e in
     l.invariant.value ∙ ap (number_after 0) all ∙ sym (number_whole g.row.W c.args.at c.args.bytes.now (omega arith))
+    ∙ sym (number_fits g.row.W c.args.at c.args.bytes.now (omega arith))
 
 pub returns-clause-upper_bound : goal.returns-clause-upper_bound
 returns-clause-upper_bound g c =
