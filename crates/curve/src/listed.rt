@@ -70,7 +70,7 @@ fn put_rises(rank: Ticks, period: Ticks, increment: u32, values: &mut [u32])
 }
 
 // The form of listed values, which are turned into their rises where they stand.
-pub(crate) fn hold(rank: Ticks, period: Ticks, increment: u32, values: &mut [u32]) -> Form
+pub fn hold(rank: Ticks, period: Ticks, increment: u32, values: &mut [u32]) -> Form
     ensures value { result ≡ form_over (record { rank = rank.0; period = period.0; increment = increment; listed = values.old }) }
     ensures values_after { values.new ≡ rises_over (record { rank = rank.0; period = period.0; increment = increment; listed = values.old }) }
 {
