@@ -1,7 +1,7 @@
 // One field of a book: a step over it, or why it is refused.
 #![tactic(auto)]
 
-ghost use Rattle.std.specs.Prelude.{◌≡◌, ◌<◌};
+ghost use Rattle.std.specs.Prelude.{◌≡◌, ◌%◌};
 ghost use Rattle.field.specs.Fields.{tag_number, tag_by};
 ghost use Rattle.field.specs.Steps.{refusal_word};
 
@@ -78,11 +78,11 @@ pub struct Refused {
 }
 
 impl Refused {
-    // Both as one number: the refusal's + 2^8 * the place.
+    // Both as one number: the refusal's + 2^8 * the place. No place in a book needs more than 16 bits; of a larger one
+    // the last 16 stand there.
     pub fn word(self) -> u64
-        requires { self.place < 65536 }
-        ensures { result ≡ refusal_word self.refusal self.place }
+        ensures { result ≡ refusal_word self.refusal (self.place % 65536) }
     {
-        self.refusal.number() as u64 + 256 * self.place as u64
+        self.refusal.number() as u64 + 256 * (self.place as u64 % 65_536)
     }
 }

@@ -37,11 +37,6 @@ outcome_bounded s b = go (read_book s) refl
 pub word-requires : goal.word-requires
 word-requires c = subst Bounded (sym c.in-Ok.ensures.value) (outcome_bounded c.args.book.now c.args.verdicts.now)
 
-pub word-requires-in-Err : goal.word-requires-in-Err
-word-requires-in-Err c =
-    let near : c.in-Err.refused.place ≤ max_bytes = subst Bounded (sym c.in-Err.ensures.value) (outcome_bounded c.args.book.now c.args.verdicts.now) in
-    omega (arith, near)
-
 pub returns-in-Ok : goal.returns-in-Ok
 returns-in-Ok c = record {
   value = rw (answer_word c.args.book.now c.args.verdicts.now, ← c.in-Ok.ensures.value) c.word.ensures;
@@ -49,7 +44,9 @@ returns-in-Ok c = record {
 }
 
 pub returns-in-Err : goal.returns-in-Err
-returns-in-Err c = record {
-  value = rw (answer_word c.args.book.now c.args.verdicts.now, ← c.in-Err.ensures.value) (c.word-in-Err.ensures ∙ omega arith);
-  verdicts_after = c.judged.ensures.verdicts_after;
-}
+returns-in-Err c =
+    let near : c.in-Err.refused.place ≤ max_bytes = subst Bounded (sym c.in-Err.ensures.value) (outcome_bounded c.args.book.now c.args.verdicts.now) in
+    record {
+      value = rw (answer_word c.args.book.now c.args.verdicts.now, ← c.in-Err.ensures.value) (c.word-in-Err.ensures ∙ omega (arith, near));
+      verdicts_after = c.judged.ensures.verdicts_after;
+    }

@@ -1,7 +1,15 @@
-use mathlib.Core.Path.{sym, ◌∙◌}
+use mathlib.Core.Path.{◌≡◌, sym, ap, ◌∙◌}
 use native.Mathlib.Omega.{arith}
-use Rattle.book.specs.Values.{asked_near}
+use Rattle.std.specs.Prelude.{ℕ, ◌%◌}
+use Rattle.field.specs.Steps.{refusal_word}
+use Rattle.book.specs.declared.CurveValue.{CurveValue}
+use Rattle.book.specs.Values.{told, asked_near}
 use Rattle.book.proofs.values.curve_value.Goals as goal
 
-pub word-requires : goal.word-requires
-word-requires c = let near = asked_near _ _ _ _ _ (sym c.value_in.ensures ∙ c.in-Err.is) in omega (arith, near)
+pub returns-in-Err : goal.returns-in-Err
+returns-in-Err c =
+    let r = c.in-Err.refused in
+    let near = asked_near _ _ _ _ _ (sym c.value_in.ensures ∙ c.in-Err.is) in
+    let whole : r.place % 65536 ≡ r.place = omega (arith, near) in
+    let said : ℕ → CurveValue = λ n. record { refusal = n; value = 0 } in
+    ap said (c.word.ensures ∙ ap (refusal_word r.refusal) whole) ∙ ap told c.in-Err.ensures
