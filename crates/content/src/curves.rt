@@ -2,13 +2,14 @@
 ghost use Rattle.std.specs.Prelude.{◌≡◌, ◌+◌, ◌*◌, ◌≤◌, min, length};
 ghost use Rattle.minplus.specs.Curve.{max_listed};
 ghost use Rattle.curve.specs.Filled.{filled};
-ghost use Rattle.curve.specs.Held.{holding};
+ghost use Rattle.std.proofs.Math.Seq.{paste};
+ghost use Rattle.curve.specs.Held.{holding, rises_into};
 ghost use Rattle.content.specs.Layout.{listed_of, curve_head, value_in, whole_in, curve_in};
 ghost use Rattle.content.specs.Refusals.{no_span, values_fit, values_rise, limit_fault, listed_fault, curve_fault};
 
 use crate::{Listed, Refusal};
-use curve::listed::seam_holds;
-use curve::{Curve, Ticks};
+use curve::listed::{hold, seam_holds};
+use curve::{Curve, Form, Ticks};
 use numbers::number;
 
 // How many bytes stand before the values.
@@ -114,6 +115,31 @@ pub fn curve_in(content: &[u8]) -> Curve
     let count = (rank + period) as usize;
     let values = values_in(content, count.min(Curve::MAX_LISTED));
     Curve::new(Ticks(rank), Ticks(period), increment, values)
+}
+
+// So many numbers, over the front of others, as far as there is room.
+fn put_front(from: &[u32], count: usize, out: &mut [u32])
+    requires { count ≤ length from.now }
+    ensures { out.new ≡ paste out.old 0 from.now (min count (length out.old)) }
+{
+    for n in 0..count.min(out.len()) {
+        out[n] = from[n];
+    }
+}
+
+// The same curve: its form, and those of its rises that count over the front of lent numbers.
+pub fn curve_into(content: &[u8], out: &mut [u32]) -> Form
+    ensures value { result ≡ (holding (curve_in content.now)).form }
+    ensures out_after { out.new ≡ rises_into out.old (holding (curve_in content.now)) }
+{
+    let rank = number::<2>(content, 0) as u32;
+    let period = number::<2>(content, 2) as u32;
+    let increment = number::<4>(content, 4) as u32;
+    let count = ((rank + period) as usize).min(Curve::MAX_LISTED);
+    let mut values = values_in(content, count);
+    let form = hold(Ticks(rank), Ticks(period), increment, &mut values);
+    put_front(&values, count, out);
+    form
 }
 
 pub fn curve_fault(content: &[u8]) -> Result<(), Refusal>
