@@ -22,7 +22,12 @@ pub struct List {
     pub wrongs: Vec<Wrong>,
     /// Why a function has fewer wrong programs than are due.
     pub few: BTreeMap<String, String>,
+    /// How many of a function's the gate holds, where they are more than `HELD`.
+    pub gate: BTreeMap<String, usize>,
 }
+
+/// As many of each function the gate holds: the first of them.
+pub const HELD: usize = 4;
 
 fn word(text: &str) -> bool {
     !text.is_empty() && text.bytes().all(|b| b.is_ascii_lowercase() || b.is_ascii_digit() || b == b'_')
@@ -40,7 +45,7 @@ fn whole(wrong: &Wrong) -> Result<(), String> {
 }
 
 pub fn read(text: &str) -> Result<List, String> {
-    let mut list = List { wrongs: Vec::new(), few: BTreeMap::new() };
+    let mut list = List { wrongs: Vec::new(), few: BTreeMap::new(), gate: BTreeMap::new() };
     let mut function = String::new();
     let mut before = ' ';
     for (number, line) in text.lines().enumerate() {
@@ -58,6 +63,9 @@ pub fn read(text: &str) -> Result<List, String> {
             function = path.to_string();
         } else if let Some(reason) = line.strip_prefix("few: ") {
             list.few.insert(function.clone(), reason.to_string());
+        } else if let Some(count) = line.strip_prefix("gate: ") {
+            let Some(count) = count.parse().ok().filter(|count| HELD < *count) else { return bad("the gate holds four of each function, and 'gate' says a number above that") };
+            list.gate.insert(function.clone(), count);
         } else if sign == '-' || sign == '+' {
             let Some(wrong) = list.wrongs.last_mut() else { return bad("a change of no wrong program") };
             if sign == '-' && !again {
