@@ -12,8 +12,8 @@ use curve::walks::Walk;
 use curve::{Ticks, Units};
 
 // The first of the `tried` ticks at which h differs from what a closure makes of f and g there: the smaller of two
-// values, or their sum, which need not fit 32 bits. The loop counts the ticks that it compares, the one that it stops at
-// included.
+// values, or their sum, which need not fit 32 bits. The loop counts the ticks that it compares, the one that it stops
+// at included.
 fn first_by<B: Fn(u64, u64) -> u64>(beside: B, f: Lent, g: Lent, h: Lent, tried: usize) -> Compared
     requires within { tried ≤ max_horizon + 1 }
     requires takes { TakesTwo (B.pre beside) }

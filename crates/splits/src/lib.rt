@@ -82,9 +82,9 @@ fn late_from(itself: bool, start: Ticks) -> usize
 // The first of the `tried` ticks at which h differs from the convolution of f and g, whose values stand in the working
 // numbers. Only splits that g lists are tried, as a later one is carried over g's periods, and of a curve with itself
 // only the smaller half; and from the tick `settled` on, past the first periods of both, none is, as all is what it was
-// a period of f before, and c more. The loop counts the ticks that it compares, the one that it stops at included. It is
-// made no part of its caller: what its loops keep in registers then hangs on what stands around them, and it was seen
-// half as slow again.
+// a period of f before, and c more. The loop counts the ticks that it compares, the one that it stops at included. It
+// is made no part of its caller: what its loops keep in registers then hangs on what stands around them, and it was
+// seen half as slow again.
 #[inline(never)]
 fn first_split(itself: bool, f: Lent, g: Lent, h: Lent, tried: usize, work: &mut Work) -> Compared
     requires { Foldable itself (curve_lent f) (curve_lent g) work.old tried }
