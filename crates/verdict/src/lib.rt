@@ -9,7 +9,7 @@ ghost use Rattle.curve.specs.Claimed.{claim_of, claim_over};
 ghost use Rattle.curve.specs.Lending.{ThirdLent, curve_lent};
 ghost use Rattle.search.specs.Break.{Judgeable, break_of};
 ghost use Rattle.verdict.specs.Given.{IsLater, LaterAsked, decided_of, judged_of, judgement, numbers_of, verdict_of};
-ghost use Rattle.verdict.specs.Codes.{code_by};
+ghost use Rattle.verdict.specs.Codes.{code_by, number_of};
 
 use curve::lent::Lent;
 use curve::rates::slower;
@@ -45,6 +45,14 @@ pub enum Code {
     RefutedByRate,
     NotLeast,
     NotJudged,
+}
+
+impl Code {
+    pub fn number(self) -> u8
+        ensures { result ≡ number_of self }
+    {
+        self as u8
+    }
 }
 
 // A number that is no verdict's.
