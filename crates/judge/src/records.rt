@@ -21,7 +21,7 @@ fn put_record(out: &mut [u8], at: usize, told: Record)
     requires { at + record_size ≤ length out.old }
     ensures { out.new ≡ put_at out.old at (record_bytes (numbers_of told)) }
 {
-    put(out, at, 1, told.code as u64);
+    put(out, at, 1, told.code.number() as u64);
     put(out, at + 1, 4, told.tick.0 as u64);
     put(out, at + 5, 8, told.left.0);
     put(out, at + 13, 8, told.right.0);
