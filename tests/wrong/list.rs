@@ -22,11 +22,11 @@ pub struct List {
     pub wrongs: Vec<Wrong>,
     /// Why a function has fewer wrong programs than are due.
     pub few: BTreeMap<String, String>,
-    /// How many of a function's the gate holds, where they are more than `HELD`.
+    /// How many of a function the gate holds, where they are more than `HELD`.
     pub gate: BTreeMap<String, usize>,
 }
 
-/// As many of each function the gate holds: the first of them.
+/// How many of a function the gate holds where the list says nothing: the first of them.
 pub const HELD: usize = 4;
 
 fn word(text: &str) -> bool {
@@ -64,7 +64,7 @@ pub fn read(text: &str) -> Result<List, String> {
         } else if let Some(reason) = line.strip_prefix("few: ") {
             list.few.insert(function.clone(), reason.to_string());
         } else if let Some(count) = line.strip_prefix("gate: ") {
-            let Some(count) = count.parse().ok().filter(|count| HELD < *count) else { return bad("the gate holds four of each function, and 'gate' says a number above that") };
+            let Some(count) = count.parse().ok().filter(|n| HELD < *n) else { return bad("'gate' says a number above four") };
             list.gate.insert(function.clone(), count);
         } else if sign == '-' || sign == '+' {
             let Some(wrong) = list.wrongs.last_mut() else { return bad("a change of no wrong program") };
