@@ -1,8 +1,8 @@
 -- Laws that several functions' proofs cite.
 --
 --     fits, rises           a value that is within the limit, and one that is not above the next
---     all_next              a test that is tried at 0, 1, 2 and so on, after one place more; all_kept, all_lost: after a
---                           place that passes it, and after one that does not
+--     all_next              a test that is tried at 0, 1, 2 and so on, after one place more; all_kept, all_lost: after
+--                           a place that passes it, and after one that does not
 --     filled_on             an array that is filled so far is filled further, where 0 is stored
 --     part_number           a number in a part of some bytes that it fills
 --     left_over             a sum is above a limit exactly when one part is above what the other leaves of it
